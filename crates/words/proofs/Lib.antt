@@ -1,0 +1,3 @@
+mod Tails
+pub mod Overwritten
+pub mod Told
