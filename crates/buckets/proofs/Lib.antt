@@ -1,0 +1,4 @@
+pub mod Held
+mod Built
+mod Edited
+pub mod Checked

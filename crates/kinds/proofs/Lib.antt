@@ -1,0 +1,2 @@
+mod Bytewise
+pub mod Positions

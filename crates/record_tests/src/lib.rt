@@ -1,0 +1,5 @@
+// Examples of records, pages and buckets.
+#[cfg(test)]
+mod pages;
+#[cfg(test)]
+mod reading;

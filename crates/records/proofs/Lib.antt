@@ -1,0 +1,2 @@
+pub mod Itemized
+mod Halved
