@@ -1,0 +1,2 @@
+mod RunsLaws
+pub mod Blocks
