@@ -5,7 +5,9 @@ ghost use mathlib.Core.Path.{_≡_};
 ghost use Prim.Native.Nat.{_+_, _<_, _≤_};
 ghost use lib.Dec.{leb};
 ghost use lib.ListN.{length, replicate};
+ghost use Rattle.std.specs.Options.{Cases};
 ghost use Rattle.std.specs.declared.option.Option.the-variants.{Some, None};
+ghost use Rattle.records.specs.Items.{recordsIn};
 ghost use Rattle.records.specs.Records.{load};
 ghost use Rattle.buckets.specs.Blocks.{heading, bucketBytes};
 ghost use Rattle.buckets.specs.Builds.{over, pair, partly};
@@ -76,7 +78,8 @@ fn lay_records<S: Source>(source: &S) -> [u8; 512]
 
 // The bucket block of a source's records, unless they are too heavy.
 pub fn build<S: Source>(prefix: Prefix, source: &S) -> Option<[u8; 512]>
-    ensures { λ r. ⌜ r ≡ cond (leb (load (S·Source .records (now (source .entry)))) 504) (Some (bucketBytes prefix (S·Source .records (now (source .entry))))) None ⌝ }
+    ensures bytes { λ r. ⌜ r ≡ cond (leb (load (S·Source .records (now (source .entry)))) 504) (Some (bucketBytes prefix (S·Source .records (now (source .entry))))) None ⌝ }
+    ensures back { λ r. ⌜ Cases r (Unit {0}) (λ block. recordsIn block ≡ S·Source .records (now (source .entry))) ⌝ }
 {
     if !is_light(source) {
         return None;

@@ -1,2 +1,2 @@
 mod RunsLaws
-pub mod Blocks
+mod Blocks

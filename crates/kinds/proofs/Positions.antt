@@ -28,9 +28,6 @@ module _ (kind : Kind) where
     onward = λ a b c la lb lc p q. let e = o .onward a b c la lb lc in grind (arith, tells);
   }
 
-  -- two lawful keys have the same position exactly when they are alike
+  -- lawful keys that are alike have the same position
   pub alike-position : AlikeHash kind → (a b : List ℕ) → kind .lawful a ≡ true → kind .lawful b ≡ true → kind .order a b ≡ Equal → position kind a b ≡ Equal
   alike-position level a b la lb e = let h = level a b la lb e in grind (arith, tells)
-
-  pub position-alike : (a b : List ℕ) → position kind a b ≡ Equal → kind .order a b ≡ Equal
-  position-alike a b e = grind (arith, tells)

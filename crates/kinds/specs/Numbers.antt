@@ -26,7 +26,7 @@ byNumber a b = numeric (numberOf a) (numberOf b)
 abbrev pub spread : List ℕ → ℕ
 spread key = (numberOf key * 2654435761) % 2 ^ 32
 
--- the number itself
+-- the number itself; a kind's hash is below 2 ^ 32 on any list, also where an element is no byte
 abbrev pub straight : List ℕ → ℕ
 straight key = numberOf key % 2 ^ 32
 

@@ -1,7 +1,7 @@
 use crate::kind::KeyKind;
 use std::cmp::Ordering;
 ghost use mathlib.Core.Path.{_≡_};
-ghost use Rattle.kinds.specs.Numbers.{numberOf, registerNumbers, straightNumbers};
+ghost use Rattle.kinds.specs.Numbers.{isNumber, numberOf, byNumber, registerNumbers, straightNumbers};
 
 // The number of a key, and 0 for any other string.
 fn number(key: &[u8]) -> u32
@@ -11,6 +11,18 @@ fn number(key: &[u8]) -> u32
         [a, b, c, d] => u32::from_be_bytes([*a, *b, *c, *d]),
         _ => 0,
     }
+}
+
+fn is_number(key: &[u8]) -> bool
+    ensures { λ r. ⌜ r ≡ isNumber (now (key .entry)) ⌝ }
+{
+    key.len() == 4
+}
+
+fn compare_numbers(a: &[u8], b: &[u8]) -> Ordering
+    ensures { λ r. ⌜ r ≡ byNumber (now (a .entry)) (now (b .entry)) ⌝ }
+{
+    number(a).cmp(&number(b))
 }
 
 // Numbers whose hash spreads those that follow one another.
@@ -24,7 +36,7 @@ pub impl KeyKind for RegisterNumbers as RegisterNumbersKind {
     ghost kind = { registerNumbers };
 
     fn is_lawful(key: &[u8]) -> bool {
-        key.len() == 4
+        is_number(key)
     }
 
     fn hash(key: &[u8]) -> u32 {
@@ -32,7 +44,7 @@ pub impl KeyKind for RegisterNumbers as RegisterNumbersKind {
     }
 
     fn compare(a: &[u8], b: &[u8]) -> Ordering {
-        number(a).cmp(&number(b))
+        compare_numbers(a, b)
     }
 }
 
@@ -44,7 +56,7 @@ pub impl KeyKind for StraightNumbers as StraightNumbersKind {
     ghost kind = { straightNumbers };
 
     fn is_lawful(key: &[u8]) -> bool {
-        key.len() == 4
+        is_number(key)
     }
 
     fn hash(key: &[u8]) -> u32 {
@@ -52,6 +64,6 @@ pub impl KeyKind for StraightNumbers as StraightNumbersKind {
     }
 
     fn compare(a: &[u8], b: &[u8]) -> Ordering {
-        number(a).cmp(&number(b))
+        compare_numbers(a, b)
     }
 }

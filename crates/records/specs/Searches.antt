@@ -26,7 +26,7 @@ pub record Goes (kind : Kind) (records : List (List ℕ)) (key : List ℕ) (n : 
   pub before : (m : ℕ) → m < n → position kind (keyAt records m) key ≡ Less
   pub after : (m : ℕ) → n ≤ m → m < length records → position kind (keyAt records m) key ≢ Less
 
--- the place of the record whose key is alike, or nothing where there is none
+-- the place of a record whose key is alike to the lawful key, or nothing where there is none
 abbrev pub Finds : Kind → List (List ℕ) → List ℕ → Option ℕ → Type 0
-Finds kind records key (Some n) = (n < length records) × (kind .order (keyAt records n) key ≡ Equal)
+Finds kind records key (Some n) = (n < length records) × (isRecord (getD records n []) ≡ true) × (kind .lawful key ≡ true) × (kind .order (keyAt records n) key ≡ Equal)
 Finds kind records key None = Sorted kind records → kind .lawful key ≡ true → (n : ℕ) → n < length records → kind .order (keyAt records n) key ≢ Equal

@@ -6,14 +6,18 @@ use lib.ListN.{length, replicate}
 use Rattle.std.specs.declared.option.Option.the-variants.{Some}
 use Rattle.std.proofs.shelf.Tests.{leb-true, cond-true, cond-false}
 use Rattle.records.specs.Records.{load}
+use Rattle.records.specs.Items.{recordsIn}
 use Rattle.buckets.specs.Blocks.{heading, bucketBytes}
 use Rattle.buckets.specs.Builds.{over}
-use Rattle.buckets.proofs.Held.{load-is}
+use Rattle.buckets.proofs.Held.{load-is, records-back}
 use Rattle.buckets.proofs.Built.{length-partly, headed}
 use Rattle.buckets.proofs.builder.build.Needs as need
 
 pub returns-then-not-is-light : need.returns-then-not-is-light
-returns-then-not-is-light g c = sym (cond-false _ _ _ (sym (c .is-light .ensures) ∙ c .if-not-is-light .taken))
+returns-then-not-is-light g c = record {
+  bytes = sym (cond-false _ _ _ (sym (c .is-light .ensures) ∙ c .if-not-is-light .taken));
+  back = tt;
+}
 
 pub lay-records-block-requires : need.lay-records-block-requires
 lay-records-block-requires g c κs = leb-true (load (g .S·Source .records (c .args .source .now))) 504 (sym (c .is-light .ensures) ∙ c .if-not-is-light .left)
@@ -32,4 +36,7 @@ returns g c =
     let light : load rs ≤ 504 = leb-true (load rs) 504 test in
     let bytes = headed (c .args .prefix) rs light in
     let e : c .write-heading .last .block ≡ bucketBytes (c .args .prefix) rs = cc in
-    ap Some e ∙ sym (cond-true _ _ _ test)
+    record {
+      bytes = ap Some e ∙ sym (cond-true _ _ _ test);
+      back = ap recordsIn e ∙ records-back (c .args .prefix) rs light;
+    }

@@ -13,7 +13,7 @@ pub returns-in-Some : need.returns-in-Some
 returns-in-Some c =
     let block = c .args .block .now in
     let rs = recordsIn block in
-    let told = c .in-Some .ensures tt in
+    let told = c .in-Some .ensures tt .bytes in
     let light : load rs ≤ 504 = grind (arith, tells) in
     let built : c .in-Some .again ≡ bucketBytes (c .args .prefix) rs = grind (arith, tells) in
     let same = matches-decides (c .in-Some .again) block (c .eq .result) (c .eq .ensures) in

@@ -32,3 +32,13 @@ returns-else-eq g c =
     λ s lk.
     none-alike kind (g .K·KeyKind·met .ordered) rs s key lk (g .K·KeyKind·met .level) place (c .place-for-place .ensures .place s lk)
     (λ l e. let is = c .eq .ensures .1 (compared ∙ e) in let not = c .if-eq .left in grind arith)
+
+pub returns-then-eq : need.returns-then-eq
+returns-then-eq g c =
+    let kind = g .K·KeyKind .kind in
+    let rs = recordsIn (c .args .block .now) in
+    let key = c .args .key .now in
+    let place = c .place-for-place .result in
+    let told = c .in-Continue-found .ensures tt in
+    let compared : c .compare .result ≡ kind .order (keyAt rs place) key = c .compare .ensures ∙ ap (λ k. kind .order k key) (told .2) in
+    (told .0, told .1, sym (c .is-lawful .ensures) ∙ c .if-not-is-lawful .left, sym compared ∙ c .eq .ensures .0 (c .if-eq .taken))
