@@ -1,4 +1,6 @@
 // A device that only appends: each write is one more record in the caller's bytes.
+#![tactic(auto)]
+
 mod head;
 mod lent;
 mod owned;

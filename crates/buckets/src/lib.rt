@@ -1,4 +1,6 @@
 // Building and checking bucket blocks.
+#![tactic(auto)]
+
 mod builder;
 mod check;
 mod joined;

@@ -1,9 +1,9 @@
 ghost use Rattle.carry.specs.Carries.{CarryEnds};
 
 use crate::carried::Carried;
+use append_log::LogBuf;
 use copying::{CopyError, copy_blocks};
 use image::ImageBuf;
-use append_log::LogBuf;
 use std::alloc::Global;
 
 // Carries the volume of a log onto an image, through the contracts of devices alone.

@@ -1,14 +1,16 @@
 // carry LOG IMAGE: carries the volume of a log file onto an image file.
+#![tactic(auto)]
+
 mod carried;
 mod carrying;
 
 use anyhow::anyhow;
+use append_log::{Head, LogBuf};
 use carried::Carried;
 use carrying::carry;
 use copying::CopyError;
 use device::Device;
 use image::ImageBuf;
-use append_log::{Head, LogBuf};
 use std::{env, fs, io};
 
 fn main(rt: HostRuntime) -> anyhow::Result<()> {

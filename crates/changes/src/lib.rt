@@ -1,4 +1,6 @@
 // Changes of an index: planned first, then made.
+#![tactic(auto)]
+
 mod change;
 mod changing;
 mod creating;

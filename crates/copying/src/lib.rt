@@ -1,4 +1,6 @@
 // Copies one device's blocks onto another, and writes only those that differ.
+#![tactic(auto)]
+
 mod copy;
 mod error;
 

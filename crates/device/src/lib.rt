@@ -1,4 +1,6 @@
 // Block devices: a count of blocks, 512 bytes in each, and an allowance of further writes.
+#![tactic(auto)]
+
 ghost use Rattle.std.specs.Prelude.{◌≡◌, ℕ, ◌+◌, ◌≤◌, List, [], length, is_ok, if◌then◌else◌, slice_index_or, slice_set};
 ghost use Rattle.device.specs.Access.{readable, writable};
 ghost use Rattle.device.specs.Laws.{Laws};

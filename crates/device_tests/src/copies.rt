@@ -1,6 +1,6 @@
+use append_log::LogBuf;
 use copying::{CopyError, copy_blocks};
 use image::ImageBuf;
-use append_log::LogBuf;
 use std::test::Fail;
 
 #[test]

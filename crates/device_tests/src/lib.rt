@@ -1,4 +1,6 @@
 // Examples of the devices and of the copy between two of them.
+#![tactic(auto)]
+
 #[cfg(test)]
 mod copies;
 #[cfg(test)]

@@ -1,5 +1,5 @@
-use device::Device;
 use append_log::{Head, Log};
+use device::Device;
 
 #[test]
 fn no_bytes_and_a_short_head_are_no_log(rt: HostRuntime) {

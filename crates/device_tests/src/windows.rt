@@ -1,6 +1,6 @@
+use append_log::LogBuf;
 use device::Device;
 use image::Image;
-use append_log::LogBuf;
 use std::test::Fail;
 use window::{Span, Window, WindowMut};
 

@@ -1,4 +1,6 @@
 // The worked figures, proved on the definitions that the contracts use.
+#![tactic(auto)]
+
 ghost use Rattle.figures.specs.Examples.{Examples};
 ghost use Rattle.figures.specs.Figures.{Figures};
 ghost use Rattle.figures.specs.Listed.{IsListing};

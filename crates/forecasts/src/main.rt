@@ -1,4 +1,6 @@
 // Prints the shape of indexes of straight numbers, whose records have 47 bytes of data each.
+#![tactic(auto)]
+
 use kinds::KeyKind;
 use shape::{Row, forecast};
 use std::io;

@@ -1,5 +1,7 @@
 // Builds small indexes of straight numbers on an image, and prints what becomes of them. The records
 // have 47 bytes of data each, so that nine of them fill a bucket.
+#![tactic(auto)]
+
 mod figure;
 
 use changes::{Change, create, put, remove};

@@ -1,4 +1,6 @@
 // The header of an index: its law, its lookups, and its block.
+#![tactic(auto)]
+
 mod codec;
 mod header;
 mod law;

@@ -1,4 +1,6 @@
 // The index: records of any kind on any device, by extendible hashing.
+#![tactic(auto)]
+
 mod blocks;
 mod fault;
 mod found;

@@ -1,4 +1,6 @@
 // Key kinds: which strings are keys, their hashes, and how they are ordered.
+#![tactic(auto)]
+
 mod kind;
 mod names;
 mod numbers;

@@ -1,4 +1,6 @@
 // Laying records out in buckets, in memory.
+#![tactic(auto)]
+
 mod list;
 mod splitting;
 mod table;

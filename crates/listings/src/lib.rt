@@ -1,4 +1,6 @@
 // The law of listings, and what the indexes of a tree have and how they change.
+#![tactic(auto)]
+
 ghost use Rattle.listings.specs.Changes.{CreatePuts, RemoveTakes, RenameMoves};
 ghost use Rattle.listings.specs.Indexes.{FolderTells, RegisterTells};
 ghost use Rattle.listings.specs.Listings.{ListingLaw};

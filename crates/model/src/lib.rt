@@ -1,4 +1,6 @@
 // The folder tree, its ten calls and why each is refused, and what holds after any of them.
+#![tactic(auto)]
+
 mod laws;
 mod refusal;
 

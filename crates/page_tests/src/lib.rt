@@ -1,3 +1,5 @@
 // Examples of pages of an index.
+#![tactic(auto)]
+
 #[cfg(test)]
 mod shown;

@@ -1,4 +1,6 @@
 // Pages: the records after a bookmark, as many as fit, in the caller's buffer.
+#![tactic(auto)]
+
 mod answer;
 mod builder;
 mod gather;

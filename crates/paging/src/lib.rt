@@ -1,4 +1,6 @@
 // A page of an index: the records after a bookmark, read from any device, under any kind.
+#![tactic(auto)]
+
 mod blocks;
 mod gather;
 mod refusal;

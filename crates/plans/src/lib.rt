@@ -1,4 +1,6 @@
 // Plans: what a change of an index will write. Planning reads only.
+#![tactic(auto)]
+
 mod extent;
 mod list;
 mod located;

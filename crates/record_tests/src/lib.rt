@@ -1,4 +1,6 @@
 // Examples of records, pages and buckets.
+#![tactic(auto)]
+
 #[cfg(test)]
 mod pages;
 #[cfg(test)]

@@ -1,4 +1,6 @@
 // Records, the record n of a block or page, and search in a bucket block.
+#![tactic(auto)]
+
 mod items;
 mod record;
 mod search;

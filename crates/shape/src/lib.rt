@@ -1,4 +1,6 @@
 // The shape of an index, forecast from the hashes and weights of its records.
+#![tactic(auto)]
+
 mod row;
 mod shapes;
 

@@ -1,11 +1,13 @@
 // Devices over one another: what a write through a window does to the device below it.
+#![tactic(auto)]
+
 ghost use Rattle.std.specs.Prelude.{◌≡◌, ◌+◌, ◌≤◌, is_ok, if◌then◌else◌, slice_set};
 ghost use Rattle.device.specs.Access.{writable};
 ghost use Rattle.append_log.specs.Records.{log_blocks, log_room, OnlyAppends};
 ghost use Rattle.window.specs.View.{view};
 
-use device::Device;
 use append_log::Log;
+use device::Device;
 use window::{Span, WindowMut};
 
 // Writes a block of a window over a device that is lent for this call.

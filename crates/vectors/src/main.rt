@@ -1,4 +1,6 @@
 // Prints published hashes, and a bucket block that is filled and emptied name by name.
+#![tactic(auto)]
+
 mod bucket;
 
 use bucket::ALL;

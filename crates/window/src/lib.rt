@@ -1,4 +1,6 @@
 // A window over any device: block b is block start + b below.
+#![tactic(auto)]
+
 mod lent;
 mod owned;
 mod span;

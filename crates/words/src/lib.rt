@@ -1,4 +1,6 @@
 // Big-endian words in byte slices: read as a number, or not at all where they reach past the end.
+#![tactic(auto)]
+
 ghost use Rattle.std.specs.Prelude.{◌≡◌};
 ghost use Rattle.words.specs.BigEndian.{word16, word32};
 

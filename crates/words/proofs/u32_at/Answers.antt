@@ -7,8 +7,8 @@ pub returns : goal.returns
 returns c =
     let xs = c.args.bytes.now in
     let at = c.args.at in
-    let f = c.in-ok-tail.ensures.lookup.0 in
-    let same = tail_at xs c.in-ok-tail.tail.now at f.2 in
+    let f = c.in_ok-tail.ensures.lookup.0 in
+    let same = tail_at xs c.in_ok-tail.tail.now at f.2 in
     let within : at + 4 ≤ length xs = omega (arith, ltb-false) in
     let a = same 0 at (omega arith) in
     let b = same 1 (at + 1) (omega arith) in
