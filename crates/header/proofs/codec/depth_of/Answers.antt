@@ -12,7 +12,7 @@ pub loop-room-preserved : goal.loop-room-preserved
 unfolding deepest
 loop-room-preserved c =
     let f = fold_more (λ (d r : ℕ). max d (7 - r)) 0 c.args.rooms.now c.loop-room.room-index 0 c.loop-room-test.true in
-    (omega arith, c.max-deep.ensures ∙ ap (λ n. max n c.saturating-sub.result) c.loop-room.invariant.1 ∙ ap (λ n. max (deepest (take c.loop-room.room-index c.args.rooms.now)) n) c.saturating-sub.ensures ∙ sym f)
+    (omega arith, c.max-deep.ensures ∙ ap (λ n. max n c.saturating_sub.result) c.loop-room.invariant.1 ∙ ap (λ n. max (deepest (take c.loop-room.room-index c.args.rooms.now)) n) c.saturating_sub.ensures ∙ sym f)
 
 pub returns : goal.returns
 returns c = record {

@@ -30,7 +30,7 @@ returns c =
     let depth = get_or block 1 0 in
     let at = 8 + 2 * (i / 2 ^ (7 - depth)) in
     let inside : at + 2 ≤ length block = read block depth i small c.if-block-lt512.false in
-    let some : c.u16-at.result ≡ Some (slot_in block depth i) = c.u16-at.ensures ∙ cond-true _ _ _ (le-leb (at + 2) (length block) inside) in
+    let some : c.u16_at.result ≡ Some (slot_in block depth i) = c.u16_at.ensures ∙ cond-true _ _ _ (le-leb (at + 2) (length block) inside) in
     record {
       value = some ∙ sym (cond-true _ _ _ (and_from _ _ (le-leb depth 7 c.if-block-gt7.false) (le-leb 512 (length block) c.if-block-lt512.false)));
       told = λ count slots rooms law enc. some ∙ ap Some (slot_read count slots rooms block law enc depth (deep_read count slots rooms block law enc) i small);

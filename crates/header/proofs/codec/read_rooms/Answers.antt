@@ -7,7 +7,7 @@ pub loop-i-preserved : goal.loop-i-preserved
 loop-i-preserved c = (
   simp length-set c.loop-i.invariant.0,
   each_more (λ k x. (x ≤ 7) × ((j : ℕ) → j ≤ 7 → RunAt c.args.slots.now j k → x ≡ j)) c.loop-i.rooms c.loop-i.i _ (omega arith) c.loop-i.invariant.1
-      (c.room-of.ensures.small, c.room-of.ensures.only),
+      (c.room_of.ensures.small, c.room_of.ensures.only),
 )
 
 pub returns : goal.returns
