@@ -1,7 +1,7 @@
 -- What follows from a kind's laws for positions.
-use Rattle.std.proofs.Common.{◌≡◌, ℕ, ◌<◌, Bool, true, cond, ltb, ◌≢◌, List, Ordering, Less, Equal, Greater, arith}
+use Rattle.std.proofs.Common.{◌≡◌, ℕ, Bool, true, ◌≢◌, List, Ordering, Less, Equal, Greater, arith}
 use Rattle.std.proofs.lemmas.Bool.Decides.{nat_tests}
-use Rattle.kinds.specs.Kinds.{Kind, TotalOrder, AlikeHash, turned, position}
+use Rattle.kinds.specs.Kinds.{Kind, TotalOrder, AlikeHash, position}
 
 pub less_onward : {lawful : List ℕ → Bool} {order : List ℕ → List ℕ → Ordering} → TotalOrder lawful order → (a b c : List ℕ) → lawful a ≡ true → lawful b ≡ true → lawful c ≡ true → order a b ≡ Less → order b c ≢ Greater → order a c ≡ Less
 less_onward o a b c la lb lc p q =

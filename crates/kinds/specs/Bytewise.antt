@@ -1,10 +1,9 @@
 -- The order of exact names is total, its alike names are equal, and FNV-1a has 32 bits.
-use Rattle.std.specs.Prelude.{◌≡◌, ℕ, ◌*◌, ◌%◌, ◌^◌, ◌<◌, Bool, true, false, cond, ltb, ◌≢◌, List, [], ◌∷◌, fold, refl}
-use Rattle.std.specs.declared.cmp.Ordering.TheVariants.{Less, Equal, Greater}
-use Rattle.std.specs.declared.cmp.Ordering.{Ordering}
+use Rattle.std.specs.Prelude.{◌≡◌, ℕ, ◌^◌, ◌<◌, ◌≢◌, List, [], ◌∷◌, fold, refl}
+use Rattle.std.specs.declared.cmp.Ordering.TheVariants.{Equal, Greater}
 use Rattle.std.proofs.Common.{arith}
-use Rattle.std.specs.Cmp.Lexicographic.{Lex}
-use Rattle.std.specs.Ordering.{MatchOrdering}
+use Rattle.std.specs.Cmp.Lexicographic.{slice_cmp}
+use Rattle.std.specs.Ordering.{nat_cmp}
 use Rattle.std.proofs.lemmas.Bool.Decides.{nat_tests}
 use Rattle.kinds.specs.Kinds.{TotalOrder, turned}
 use Rattle.kinds.specs.Names.{is_name, fnv_byte, by_bytes}
@@ -44,8 +43,8 @@ fnv_narrow h [] l = l
 fnv_narrow h (x ∷ xs) l = fnv_narrow (fnv_byte h x) xs (omega arith)
 
 -- what the comparison of slices answers
-pub by_bytes_is : (a b : List ℕ) (o : Ordering) → Lex (λ x y k. MatchOrdering k (x < y) (x ≡ y) (y < x)) a b o → o ≡ by_bytes a b
-by_bytes_is [] [] o h = h
-by_bytes_is [] (y ∷ ys) o h = h
-by_bytes_is (x ∷ xs) [] o h = h
-by_bytes_is (x ∷ xs) (y ∷ ys) o h = let e = by_bytes_is xs ys in grind (arith, nat_tests)
+pub by_bytes_is : (a b : List ℕ) → slice_cmp nat_cmp a b ≡ by_bytes a b
+by_bytes_is [] [] = refl
+by_bytes_is [] (y ∷ ys) = refl
+by_bytes_is (x ∷ xs) [] = refl
+by_bytes_is (x ∷ xs) (y ∷ ys) = let e = by_bytes_is xs ys in grind (arith, nat_tests)

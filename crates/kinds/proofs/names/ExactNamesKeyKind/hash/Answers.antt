@@ -1,4 +1,4 @@
-use Rattle.std.proofs.Common.{◌≡◌, ap, ◌∙◌, take_all}
+use Rattle.std.proofs.Common.{ap, ◌∙◌, take_all}
 use Rattle.std.proofs.lemmas.List.Sums.{fold_more}
 use Rattle.kinds.specs.Names.{fnv, fnv_byte}
 use Rattle.kinds.proofs.names.ExactNamesKeyKind.hash.Goals as goal
