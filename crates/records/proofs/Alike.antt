@@ -1,13 +1,12 @@
 -- The record with an alike key among sorted records, by what a search answers.
-use Rattle.std.proofs.Common.{◌≡◌, ℕ, ◌<◌, ◌≤◌, true, false, ◌≢◌, List, [], ◌∷◌, length, get_or, Some, None, Option, Less, Equal, Greater, sym, ap, ⊎_elim, arith}
+use Rattle.std.proofs.Common.{◌≡◌, ℕ, ◌<◌, true, false, ◌≢◌, List, [], ◌∷◌, length, get_or, Equal, ap, ⊎_elim, arith}
 use Rattle.std.specs.Ordering.{is_eq}
-use Rattle.std.specs.List.{AllByRecursion as All}
 use Rattle.std.proofs.ByRecursion.{All-from_get_or}
 use Rattle.std.proofs.lemmas.Bool.{cases_order}
-use Rattle.kinds.specs.Kinds.{Kind, TotalOrder, AlikeHash, position}
+use Rattle.kinds.specs.Kinds.{Kind, TotalOrder, AlikeHash}
 use Rattle.kinds.proofs.Positions.{alike-position}
 use Rattle.records.specs.Records.{key_of}
-use Rattle.records.specs.Searches.{key_at, Sorted, Finds}
+use Rattle.records.specs.Searches.{key_at, Sorted}
 use Rattle.records.specs.Ordered.{alike}
 use Rattle.records.proofs.Kept.{kept_none, kept_one}
 

@@ -1,11 +1,10 @@
 -- Record n of a block or page, case by case.
-use Rattle.std.proofs.Common.{◌≡◌, ℕ, ◌+◌, ◌-◌, ◌*◌, ◌<◌, ◌≤◌, cond, leb, List, [], map, length, get_or, take, drop, Some, None, unwrap_or, sym, ap, ◌∙◌, ⊎_elim, arith, length-drop}
-use Rattle.std.specs.List.{range_with_len}
+use Rattle.std.proofs.Common.{◌≡◌, ℕ, ◌+◌, ◌-◌, ◌<◌, ◌≤◌, cond, leb, List, [], length, get_or, take, drop, Some, None, unwrap_or, sym, ap, ◌∙◌, ⊎_elim, arith, length-drop}
 use Rattle.std.proofs.lemmas.List.FromFn.{length-map-range_with_len, get_or-map-range_with_len}
 use Rattle.std.proofs.lemmas.Bool.{cases_lt, cond-true, cond-false, le-leb, lt-leb}
 use Rattle.std.proofs.lemmas.Bool.Decides.{nat_tests}
 use Rattle.words.specs.BigEndian.{be16}
-use Rattle.records.specs.Items.{pair_at, offset_at, length_at, item_inside, item_at, bucket_item, record_count, records_in}
+use Rattle.records.specs.Items.{pair_at, offset_at, length_at, item_at, bucket_item, record_count, records_in}
 
 module _ (count pairs : ℕ) (xs : List ℕ) (n : ℕ) where
   pub item_is : n < be16 xs count → pair_at pairs n + 4 ≤ length xs → offset_at xs pairs n + length_at xs pairs n ≤ length xs → item_at count pairs xs n ≡ Some (take (length_at xs pairs n) (drop (offset_at xs pairs n) xs))

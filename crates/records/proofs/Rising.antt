@@ -1,17 +1,16 @@
 -- Sorted records from the first on, and what put and removal come to at a place among them.
 use Rattle.std.proofs.Common.{◌≡◌, ℕ, zero, suc, ◌<◌, ◌≤◌, Bool, true, false, ◌≢◌, List, [], ◌∷◌, ◌++◌, length, get_or, take, drop, filter, Less, Equal, Greater, sym, refl, ap, ◌∙◌, subst, ⊎_elim, arith}
-use Rattle.std.specs.List.{insert, remove, AllByRecursion as All}
-use Rattle.std.specs.Ordering.{is_lt, is_eq}
-use Rattle.std.proofs.ByRecursion.{All-append, All-get_or, All-from_get_or, all_kept_by, All-weaker}
-use Rattle.std.proofs.lemmas.List.{take_at, drop_at, length-take-le}
+use Rattle.std.specs.List.{AllByRecursion as All}
+use Rattle.std.specs.Ordering.{is_lt}
+use Rattle.std.proofs.ByRecursion.{All-append, All-get_or, All-from_get_or, all_kept_by}
 use Rattle.std.proofs.lemmas.Bool.{cases_lt, cases_eq, cases_Bool}
-use Rattle.kinds.specs.Kinds.{Kind, TotalOrder, AlikeHash, position}
-use Rattle.kinds.proofs.Positions.{less_onward, position-total, alike-position}
+use Rattle.kinds.specs.Kinds.{Kind, TotalOrder, position}
+use Rattle.kinds.proofs.Positions.{less_onward, position-total}
 use Rattle.records.specs.Records.{is_record, key_of}
 use Rattle.records.specs.Searches.{key_at, Sorted, Goes}
-use Rattle.records.specs.Ordered.{before, after, put, without, alike}
+use Rattle.records.specs.Ordered.{before, after}
 use Rattle.records.proofs.Halved.{none_past}
-use Rattle.records.proofs.Kept.{kept_yes, kept_no, kept_none, kept_front, kept_back, kept_one}
+use Rattle.records.proofs.Kept.{kept_yes, kept_no, kept_none, kept_front, kept_back}
 
 abbrev pub Before : Kind → List ℕ → List ℕ → Type 0
 Before kind r q = position kind (key_of r) (key_of q) ≡ Less

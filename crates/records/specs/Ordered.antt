@@ -1,5 +1,5 @@
 -- Lists of records by position: what stands before and after a key, put and removal.
-use Rattle.std.specs.Prelude.{ℕ, Bool, List, ◌∷◌, ◌++◌, filter}
+use Rattle.std.specs.Prelude.{ℕ, List, ◌∷◌, ◌++◌, filter}
 use Rattle.std.specs.Ordering.{is_lt, is_eq}
 use Rattle.kinds.specs.Kinds.{Kind, position}
 use Rattle.records.specs.Records.{key_of}

@@ -1,12 +1,12 @@
-use Rattle.std.proofs.Common.{◌≡◌, ◌+◌, ◌-◌, ◌/◌, ◌<◌, ◌≤◌, true, false, ◌≢◌, length, Less, sym, ap, ◌∙◌, arith}
+use Rattle.std.proofs.Common.{◌≡◌, ◌+◌, ◌-◌, ◌/◌, ◌≢◌, Less, arith}
 use Rattle.kinds.specs.Kinds.{position}
 use Rattle.records.specs.Items.{records_in}
 use Rattle.records.specs.Searches.{key_at}
 use Rattle.records.proofs.Halved.{raise_low, cut_high}
 use Rattle.records.proofs.search.place_for.Goals as goal
 
-pub loop-low-preserved-then-is-before : goal.loop-low-preserved-then-is-before
-loop-low-preserved-then-is-before g c =
+pub loop-low-preserved-then-is_before : goal.loop-low-preserved-then-is_before
+loop-low-preserved-then-is_before g c =
     let kind = g.K.KeyKind.kind in
     let rs = records_in c.args.block.now in
     let key = c.args.key.now in
@@ -17,7 +17,7 @@ loop-low-preserved-then-is-before g c =
       omega arith,
       v.1,
       λ s lk.
-          let told = c.is-before.ensures (s.whole middle (omega arith)) in
+          let told = c.is_before.ensures (s.whole middle (omega arith)) in
           let less : position kind (key_at rs middle) key ≡ Less = grind arith in
           raise_low kind g.met.K.KeyKind.ordered rs s key lk middle high low (omega arith) less (v.2 s lk),
     )
@@ -34,7 +34,7 @@ loop-low-preserved g c =
       omega arith,
       omega arith,
       λ s lk.
-          let told = c.is-before.ensures (s.whole middle (omega arith)) in
+          let told = c.is_before.ensures (s.whole middle (omega arith)) in
           let not : position kind (key_at rs middle) key ≢ Less = grind arith in
           cut_high kind g.met.K.KeyKind.ordered rs s key lk middle low high not (v.2 s lk),
     )
