@@ -1,4 +1,4 @@
 use Rattle.shape.proofs.shapes.+shape_under.Given as goal
 
-abbrev pub decreases-shape-under : goal.decreases-shape-under
-decreases-shape-under l = l.room
+abbrev pub decreases-shape_under : goal.decreases-shape_under
+decreases-shape_under l = l.room

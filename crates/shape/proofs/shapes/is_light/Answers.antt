@@ -9,20 +9,20 @@ use Rattle.shape.proofs.shapes.is_light.Goals as goal
 pub loop-row-init : goal.loop-row-init
 loop-row-init c = (omega arith, sym (load_none row_measure c.args.room c.args.prefix))
 
-pub returns-then-load-gt-MAX-LOAD : goal.returns-then-load-gt-MAX-LOAD
-returns-then-load-gt-MAX-LOAD c =
+pub returns-then-load-gt-MAX_LOAD : goal.returns-then-load-gt-MAX_LOAD
+returns-then-load-gt-MAX_LOAD c =
     let rows = c.args.rows.now in
     let k = c.args.room in
     let p = c.args.prefix in
     let i = c.loop-row.row-index in
     let more = load_more row_measure k p rows i (record { hash = 0; weight = 0 }) c.loop-row-test.true in
     let part = load-take row_measure k p rows (i + 1) in
-    sym (lt-leb (load row_measure k p rows) 504 (omega (arith, c.weight-under-load.ensures)))
+    sym (lt-leb (load row_measure k p rows) 504 (omega (arith, c.weight_under-load.ensures)))
 
 pub loop-row-preserved : goal.loop-row-preserved
 loop-row-preserved c =
     let more = load_more row_measure c.args.room c.args.prefix c.args.rows.now c.loop-row.row-index (record { hash = 0; weight = 0 }) c.loop-row-test.true in
-    (omega arith, omega (arith, c.weight-under-load.ensures))
+    (omega arith, omega (arith, c.weight_under-load.ensures))
 
 pub returns : goal.returns
 returns c =

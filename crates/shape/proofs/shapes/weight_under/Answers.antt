@@ -8,7 +8,7 @@ unfolding prefix_of
 returns-then-from-room c =
     let same = ap (λ h. h / 2 ^ (25 + c.args.room)) (sym c.from.ensures) ∙ c.if-from-room.true in
     record {
-      0 = c.from-then-from-room.ensures ∙ sym (cond-true _ _ _ (eq-eqb _ _ same));
+      value = c.from-then-from-room.ensures ∙ sym (cond-true _ _ _ (eq-eqb _ _ same));
       small = omega (arith, c.from-then-from-room.ensures);
     }
 
@@ -16,6 +16,6 @@ pub returns-else-from-room : goal.returns-else-from-room
 unfolding prefix_of
 returns-else-from-room c =
     record {
-      0 = sym (cond-false _ _ _ (ne_eqb _ _ (λ e. c.if-from-room.false (ap (λ h. h / 2 ^ (25 + c.args.room)) c.from.ensures ∙ e))));
+      value = sym (cond-false _ _ _ (ne_eqb _ _ (λ e. c.if-from-room.false (ap (λ h. h / 2 ^ (25 + c.args.room)) c.from.ensures ∙ e))));
       small = omega arith;
     }
