@@ -1,4 +1,4 @@
-use Rattle.std.proofs.Common.{◌≡◌, ℕ, ◌<◌, false, get_or, sym, refl, subst, arith}
+use Rattle.std.proofs.Common.{ℕ, ◌<◌, false, get_or, sym, refl, subst, arith}
 use Rattle.std.proofs.lemmas.Bool.{both_ways}
 use Rattle.std.proofs.lemmas.Slice.Eq.{slice_eq-Decides}
 use Rattle.header.specs.Headers.{RunAt, deepest, Encodes}
@@ -13,27 +13,34 @@ returns-then-deep-gt7 c = record {
   whole = λ count slots rooms law enc. absurd (omega (arith, c.if-deep-gt7.true, deep_read count slots rooms c.args.block.now law enc, deepest_small rooms));
 }
 
-pub returns-then-not-is-lawful : goal.returns-then-not-is-lawful
-returns-then-not-is-lawful c = record {
+pub returns-then-not-is_lawful : goal.returns-then-not-is_lawful
+returns-then-not-is_lawful c = record {
   sound = tt;
   lawful = tt;
   whole = λ count slots rooms law enc.
-      let read = c.read-slots-slots in
-      let found = c.read-rooms-rooms in
+      let read = c.read_slots-slots in
+      let found = c.read_rooms-rooms in
       let e = all_read count slots rooms c.args.block.now law enc read.result found.result read.ensures.long read.ensures.each found.ensures.long found.ensures.only in
       let lawful : (s : ℕ) → s < 128 → RunAt read.result (get_or found.result s 0) s
       = subst (λ xs. (s : ℕ) → s < 128 → RunAt xs (get_or found.result s 0) s) (sym e.1) (subst (λ ys. (s : ℕ) → s < 128 → RunAt slots (get_or ys s 0) s) (sym e.2) law.runs) in
-      both_ways false refl (c.if-not-is-lawful.ensures.1 lawful);
+      both_ways false refl (c.if-not-is_lawful.ensures.1 lawful);
 }
 
 pub returns-then-eq : goal.returns-then-eq
 returns-then-eq c = record {
   sound =
       let e = (slice_eq-Decides Decides-eqb _ _ _ c.eq.ensures).0 c.if-eq.true in
-      subst (λ bs. Encodes (count_in c.args.block.now) (deepest c.read-rooms-rooms.result) c.read-slots-slots.result bs) e c.encode.ensures;
+      subst (λ bs. Encodes (count_in c.args.block.now) (deepest c.read_rooms-rooms.result) c.read_slots-slots.result bs) e c.encode.ensures;
+  lawful = let found = c.read_rooms-rooms in record {
+    count_fits = omega arith;
+    slots_long = c.read_slots-slots.ensures.long;
+    rooms_long = found.ensures.long;
+    small = found.ensures.small;
+    runs = c.is_lawful.ensures.0 c.if-not-is_lawful.false;
+  };
   whole = λ count slots rooms law enc.
-      let read = c.read-slots-slots in
-      let found = c.read-rooms-rooms in
+      let read = c.read_slots-slots in
+      let found = c.read_rooms-rooms in
       all_read count slots rooms c.args.block.now law enc read.result found.result read.ensures.long read.ensures.each found.ensures.long found.ensures.only;
 }
 

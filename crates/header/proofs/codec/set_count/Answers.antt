@@ -1,4 +1,4 @@
-use Rattle.std.proofs.Common.{◌≡◌, ℕ, ◌<◌, get_or, sym, ◌∙◌, subst, arith, rules}
+use Rattle.std.proofs.Common.{◌≡◌, ℕ, ◌<◌, get_or, sym, subst, arith, rules}
 use borrow.Rule.Slice.PartMut.{put_mid}
 use Rattle.words.specs.BigEndian.{bytes32}
 use Rattle.header.specs.Headers.{recounted, Encodes}

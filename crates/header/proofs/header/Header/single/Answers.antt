@@ -3,6 +3,11 @@ use Rattle.header.specs.Headers.{deepest}
 use Rattle.header.proofs.RunsLaws.{runs_one, rooms_one}
 use Rattle.header.proofs.header.Header.single.Goals as goal
 
-pub invariant-of-result : goal.invariant-of-result
+pub invariant_of-result : goal.invariant_of-result
 unfolding deepest
-invariant-of-result c = (lit< tt, (runs_one c.args.bucket, (rooms_one, (refl, tt))))
+invariant_of-result c = record {
+  counted = lit< tt;
+  lawful = runs_one c.args.bucket;
+  small = rooms_one;
+  deep = refl;
+}
