@@ -2,7 +2,6 @@
 use Rattle.std.proofs.Common.{◌≡◌, ℕ, zero, suc, ◌+◌, ◌-◌, ◌*◌, ◌<◌, ◌≤◌, List, [], ◌∷◌, ◌++◌, length, get_or, take, drop, replicate, sym, refl, ap, ◌∙◌, append_assoc, arith, length-append}
 use lib.ListN.{length-replicate}
 use Rattle.std.proofs.lemmas.List.{append-nil, take_at, drop_at, take_more, take_all, length-take-le, replicate-append-replicate}
-use Rattle.words.specs.BigEndian.{bytes16, bytes32}
 use Rattle.records.specs.Records.{load}
 use Rattle.buckets.specs.declared.prefix.Prefix.{Prefix}
 use Rattle.buckets.specs.Blocks.{size, bodies, pairs, heading, bucket_bytes}

@@ -1,5 +1,5 @@
 -- A block that passes the checks is the bucket of its own records, and only such a block does.
-use Rattle.std.proofs.Common.{◌≡◌, ℕ, zero, suc, ◌+◌, ◌-◌, ◌<◌, ◌≤◌, true, List, [], length, get_or, Less, sym, ap, ◌∙◌, subst, arith}
+use Rattle.std.proofs.Common.{◌≡◌, ℕ, zero, suc, ◌+◌, ◌-◌, ◌<◌, ◌≤◌, List, length, Less, sym, ap, ◌∙◌, subst, arith}
 use Rattle.kinds.specs.Kinds.{Kind, TotalOrder, position}
 use Rattle.kinds.proofs.Positions.{less_onward, position-total}
 use Rattle.records.specs.Items.{records_in}

@@ -1,9 +1,9 @@
 -- What a bucket block holds at each place, and that its records are read back.
-use Rattle.std.proofs.Common.{◌≡◌, ℕ, zero, suc, ◌+◌, ◌-◌, ◌*◌, ◌/◌, ◌%◌, ◌<◌, ◌≤◌, List, [], ◌∷◌, ◌++◌, length, get_or, take, drop, replicate, Some, unwrap_or, sym, refl, ap, ◌∙◌, append_assoc, arith, length-append}
+use Rattle.std.proofs.Common.{◌≡◌, ℕ, zero, suc, ◌+◌, ◌*◌, ◌<◌, ◌≤◌, List, [], ◌∷◌, ◌++◌, length, get_or, take, drop, Some, unwrap_or, refl, ap, ◌∙◌, append_assoc, arith, length-append}
 use lib.ListN.{length-replicate}
 use Rattle.std.proofs.lemmas.List.{get_or-append-add, take_at, drop-drop, drop_at, same_lists, get_or_default}
 use Rattle.std.proofs.lemmas.Bool.Decides.{nat_tests}
-use Rattle.words.specs.BigEndian.{be16, bytes16, word16}
+use Rattle.words.specs.BigEndian.{be16}
 use Rattle.records.specs.Records.{load}
 use Rattle.records.specs.Items.{offset_at, length_at, bucket_item, record_count, records_in}
 use Rattle.records.proofs.Itemized.{item_is, length-records_in, get_or-records_in}

@@ -1,4 +1,4 @@
-use Rattle.std.proofs.Common.{◌≡◌, ◌<◌, ◌≤◌, [], length, get_or, sym, ap, ◌∙◌, arith, take_all}
+use Rattle.std.proofs.Common.{length, sym, ap, arith, take_all}
 use Rattle.std.proofs.lemmas.Bool.{le-leb, lt-leb}
 use Rattle.records.specs.Records.{load}
 use Rattle.buckets.specs.Blocks.{size}

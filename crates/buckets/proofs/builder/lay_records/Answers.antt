@@ -1,4 +1,4 @@
-use Rattle.std.proofs.Common.{◌≡◌, ℕ, ◌+◌, ◌*◌, ◌<◌, ◌≤◌, List, [], length, get_or, replicate, sym, refl, ap, ◌∙◌, arith}
+use Rattle.std.proofs.Common.{◌≡◌, ℕ, ◌+◌, ◌<◌, List, length, replicate, refl, ap, ◌∙◌, arith}
 use Rattle.buckets.specs.Builds.{partly}
 use Rattle.buckets.proofs.Held.{load_is, size-take}
 use Rattle.buckets.proofs.Built.{partly_none, partly_more, start_more, length-partly}
@@ -7,23 +7,23 @@ use Rattle.buckets.proofs.builder.lay_records.Goals as goal
 abbrev zeros : List ℕ
 zeros = replicate {A = ℕ} 8 0
 
-pub overflow-mul-at : goal.overflow-mul-at
-overflow-mul-at g c = omega (arith, load_is (g.S.Source.records c.args.source.now))
+pub overflow_mul-at : goal.overflow_mul-at
+overflow_mul-at g c = omega (arith, load_is (g.S.Source.records c.args.source.now))
 
-pub overflow-add-at : goal.overflow-add-at
-overflow-add-at g c = omega (arith, load_is (g.S.Source.records c.args.source.now))
+pub overflow_add-at : goal.overflow_add-at
+overflow_add-at g c = omega (arith, load_is (g.S.Source.records c.args.source.now))
 
 pub loop-n-init : goal.loop-n-init
 loop-n-init g c = let rs = g.S.Source.records c.args.source.now in (refl, partly_none zeros refl rs c.requires, omega arith)
 
-pub overflow-mul-n : goal.overflow-mul-n
-overflow-mul-n g c = omega (arith, load_is (g.S.Source.records c.args.source.now))
+pub overflow_mul-n : goal.overflow_mul-n
+overflow_mul-n g c = omega (arith, load_is (g.S.Source.records c.args.source.now))
 
-pub overflow-add-n : goal.overflow-add-n
-overflow-add-n g c = omega (arith, load_is (g.S.Source.records c.args.source.now))
+pub overflow_add-n : goal.overflow_add-n
+overflow_add-n g c = omega (arith, load_is (g.S.Source.records c.args.source.now))
 
-pub write-pair-requires : goal.write-pair-requires
-write-pair-requires g c =
+pub write_pair-requires : goal.write_pair-requires
+write_pair-requires g c =
     let rs = g.S.Source.records c.args.source.now in
     let w = load_is rs in
     let s = size-take rs c.loop-n.n (omega arith) in
@@ -38,8 +38,8 @@ write-requires g c =
     let i = ap length c.record-record.ensures in
     omega arith
 
-pub overflow-add-at-in-loop-n : goal.overflow-add-at-in-loop-n
-overflow-add-at-in-loop-n g c =
+pub overflow_add-at-in-loop-n : goal.overflow_add-at-in-loop-n
+overflow_add-at-in-loop-n g c =
     let rs = g.S.Source.records c.args.source.now in
     let w = load_is rs in
     let s = size-take rs c.loop-n.n (omega arith) in

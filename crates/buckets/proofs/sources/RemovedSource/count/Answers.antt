@@ -1,4 +1,4 @@
-use Rattle.std.proofs.Common.{[], length, sym, ap, arith}
+use Rattle.std.proofs.Common.{[], length, ap, arith}
 use Rattle.std.proofs.lemmas.List.Edits.{length-remove}
 use Rattle.records.specs.Items.{records_in}
 use Rattle.buckets.proofs.Edited.{nothing_out}
