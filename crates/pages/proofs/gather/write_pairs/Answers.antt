@@ -6,11 +6,11 @@ use Rattle.pages.specs.Gathered.{pairs_by}
 use Rattle.pages.proofs.Cuts.{over-over, pairs_by_push, length-pairs_by}
 use Rattle.pages.proofs.gather.write_pairs.Goals as goal
 
-pub write-pair-requires : goal.write-pair-requires
-write-pair-requires c = let s = sum_by-take-le (λ (x : ℕ). x) c.args.lens.now c.loop-n.n in (omega arith, omega arith)
+pub write_pair-requires : goal.write_pair-requires
+write_pair-requires c = let s = sum_by-take-le (λ (x : ℕ). x) c.args.lens.now c.loop-n.n in (omega arith, omega arith)
 
-pub overflow-add-offset : goal.overflow-add-offset
-overflow-add-offset c = let s = sum_by-take-le (λ (x : ℕ). x) c.args.lens.now c.loop-n.n in omega (arith, c.type-inv.lens c.loop-n.n)
+pub overflow_add-offset : goal.overflow_add-offset
+overflow_add-offset c = let s = sum_by-take-le (λ (x : ℕ). x) c.args.lens.now c.loop-n.n in omega (arith, c.type_inv.lens c.loop-n.n)
 
 pub loop-n-preserved : goal.loop-n-preserved
 loop-n-preserved c =
@@ -25,7 +25,7 @@ loop-n-preserved c =
     let step = over-over 4 (4 + 4 * n) front (pair (start + sum (take n lens)) len) buffer (omega arith) (omega arith) in
     let more : pairs_by start (take (n + 1) lens) ≡ front ++ pair (start + sum (take n lens)) len = ap (pairs_by start) (take_more lens n 0 l) ∙ pairs_by_push start (take n lens) len in
     let total = sum_by_more (λ (x : ℕ). x) lens n 0 l in
-    let w : c.write-pair.new.buffer ≡ over (4 + 4 * n) (pair (start + sum (take n lens)) len) (over 4 front buffer) = cc in
+    let w : c.write_pair.new.buffer ≡ over (4 + 4 * n) (pair (start + sum (take n lens)) len) (over 4 front buffer) = cc in
     (w ∙ step ∙ ap (λ x. over 4 x buffer) (sym more), omega arith)
 
 pub returns : goal.returns

@@ -29,8 +29,8 @@ pub overflow-add-result : goal.overflow-add-result
 overflow-add-result g c =
     let told = c.in-Some.ensures in
     let xs = c.args.block.now in
-    let a : get_or xs 2 0 < 256 = omega (arith, c.type-inv.block 2) in
-    let b : get_or xs 3 0 < 256 = omega (arith, c.type-inv.block 3) in
+    let a : get_or xs 2 0 < 256 = omega (arith, c.type_inv.block 2) in
+    let b : get_or xs 3 0 < 256 = omega (arith, c.type_inv.block 3) in
     omega (arith, count_small xs a b)
 
 pub returns-then-eq : goal.returns-then-eq

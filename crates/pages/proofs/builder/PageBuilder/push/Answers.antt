@@ -28,18 +28,22 @@ returns-then-left-lt-PAIR c =
       size = refl;
     }
 
-pub invariant-of-self : goal.invariant-of-self
-invariant-of-self c =
+pub invariant_of-self : goal.invariant_of-self
+invariant_of-self c =
     let p = c.args.self.now in
     let item = c.args.item.now in
     let a = p.listed in
     let b = p.held in
     let f = p.fits in
     let s = p.small in
-    let at : p.count < length p.lens = omega arith in (
-      length-set p.lens p.count (length item) ∙ a,
-      (ap length c.write.ensures ∙ length_over p.fill item p.bytes (omega arith) ∙ b, (omega arith, (s, (ap sum (take_more_set p.lens p.count (length item) at) ∙ sum_by_push (λ x. x) (take p.count p.lens) (length item) ∙ ap (λ n. n + length item) p.summed, tt)))),
-    )
+    let at : p.count < length p.lens = omega arith in
+    record {
+      listed = length-set p.lens p.count (length item) ∙ a;
+      held = ap length c.write.ensures ∙ length_over p.fill item p.bytes (omega arith) ∙ b;
+      fits = omega arith;
+      small = s;
+      summed = ap sum (take_more_set p.lens p.count (length item) at) ∙ sum_by_push (λ x. x) (take p.count p.lens) (length item) ∙ ap (λ n. n + length item) p.summed;
+    }
 
 pub returns : goal.returns
 returns c =
