@@ -1,9 +1,9 @@
 -- A log after one more record.
-use Rattle.std.proofs.Common.{◌≡◌, ℕ, zero, suc, ◌+◌, ◌-◌, ◌*◌, ◌/◌, ◌%◌, ◌^◌, ◌<◌, ◌≤◌, min, Bool, true, false, cond, ◌&&◌, eqb, ltb, leb, ◌≢◌, List, [], length, get_or, take, drop, set, replicate, Some, None, Option, sym, refl, ap, ◌∙◌, subst, ⊎_elim, add-one, arith, length-drop, length-set, length-take}
+use Rattle.std.proofs.Common.{◌≡◌, ℕ, zero, suc, ◌+◌, ◌-◌, ◌/◌, ◌^◌, ◌<◌, ◌≤◌, min, true, cond, ◌&&◌, eqb, ltb, ◌≢◌, List, [], length, get_or, drop, set, Some, sym, refl, ap, ◌∙◌, subst, ⊎_elim, add-one, arith, length-drop, length-set, length-take}
 use borrow.Rule.Slice.PartMut.{put_mid}
 use Rattle.std.proofs.lemmas.List.{ext_get_or, get_or-take, get_or-drop, get_or-set_same, get_or-set_other}
 use Rattle.std.proofs.lemmas.Bool.{and_from, lt-ltb, cases_eq}
-use Rattle.words.specs.BigEndian.{be16, be32, bytes16, bytes32}
+use Rattle.words.specs.BigEndian.{be16, bytes16, bytes32}
 use Rattle.words.proofs.Overwritten.{length-put, put_below, put_inside, put_above, be16-put, be32-put}
 use Rattle.append_log.specs.declared.head.Head.{Head}
 use Rattle.append_log.specs.Records.{used, total, start, number, body, in_range, valid, head_of, latest, room_of, log_blocks, log_room, OnlyAppends, Appended}

@@ -1,7 +1,6 @@
 -- What a head that was kept tells of the bytes.
-use Rattle.std.proofs.Common.{◌≡◌, ℕ, ◌+◌, ◌-◌, ◌*◌, ◌/◌, ◌%◌, ◌<◌, ◌≤◌, min, true, false, List, length, Some, None, Option, sym, refl, ap, ◌∙◌, ⊎_elim, arith}
+use Rattle.std.proofs.Common.{◌≡◌, ℕ, ◌-◌, ◌/◌, ◌≤◌, min, true, false, List, length, Some, None, Option, sym, ap, ◌∙◌, ⊎_elim, arith}
 use Rattle.std.proofs.lemmas.Bool.{cases_Bool}
-use Rattle.words.specs.BigEndian.{be16, be32}
 use Rattle.append_log.specs.declared.head.Head.{Head}
 use Rattle.append_log.specs.Records.{used, total, start, valid, head_of, count_of, room_of, log_blocks, log_room}
 use Rattle.append_log.specs.Replayed.{valid_parts, head_of-valid, head_of_not, length-log_blocks}

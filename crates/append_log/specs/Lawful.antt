@@ -1,12 +1,11 @@
 -- The laws of a device, for the blocks of a log.
-use Rattle.std.specs.Prelude.{◌≡◌, ℕ, zero, suc, ◌+◌, ◌-◌, ◌*◌, ◌/◌, ◌%◌, ◌<◌, ◌≤◌, min, Bool, true, false, cond, List, [], length, replicate, Some, None, Option, ◌==◌, slice_index_or, refl}
-use Rattle.std.proofs.Common.{sym, ap, subst, ◌∙◌, ⊎_elim, arith, length-take, length-drop}
+use Rattle.std.specs.Prelude.{◌≡◌, ℕ, zero, suc, ◌<◌, ◌≤◌, true, false, List, [], length, Some, None, Option, ◌==◌, slice_index_or, refl}
+use Rattle.std.proofs.Common.{ap, ◌∙◌, ⊎_elim, arith, length-take, length-drop}
 use Rattle.std.proofs.lemmas.List.{length-replicate}
 use Rattle.std.proofs.lemmas.Bool.{cond_both, cases_Bool}
-use Rattle.words.specs.BigEndian.{be16, be32}
 use Rattle.device.specs.Laws.{Laws}
 use Rattle.append_log.specs.declared.head.Head.{Head}
-use Rattle.append_log.specs.Records.{used, total, start, number, body, valid, head_of, latest, count_of, room_of, log_blocks, log_room, OnlyAppends}
+use Rattle.append_log.specs.Records.{used, start, number, body, valid, head_of, latest, count_of, room_of, log_blocks, log_room, OnlyAppends}
 use Rattle.append_log.specs.Replayed.{valid_parts, head_of-valid, head_of_not, length-log_blocks, get_or-log_blocks, valid-from-block}
 
 length-latest : (xs : List ℕ) (n b : ℕ) → start n ≤ length xs → length (latest xs n b) ≡ 512

@@ -1,5 +1,5 @@
 -- A log: a head of six bytes, then records of 514 bytes, a block number and the block's new contents.
-use Rattle.std.specs.Prelude.{◌≡◌, ℕ, zero, suc, ◌+◌, ◌-◌, ◌*◌, ◌/◌, ◌%◌, ◌<◌, ◌≤◌, min, Bool, true, cond, ◌&&◌, List, [], map, length, take, drop, replicate, is_ok, Some, None, Option, Result, MatchResult, ◌==◌, nat_le, nat_lt, slice_index, slice_set}
+use Rattle.std.specs.Prelude.{◌≡◌, ℕ, zero, suc, ◌+◌, ◌-◌, ◌*◌, ◌/◌, ◌%◌, ◌<◌, ◌≤◌, min, Bool, true, cond, ◌&&◌, List, map, length, take, drop, replicate, is_ok, Some, None, Option, Result, MatchResult, ◌==◌, nat_le, nat_lt, slice_index, slice_set}
 use Rattle.std.specs.List.{range_with_len}
 use Rattle.device.specs.Access.{writable}
 use Rattle.words.specs.BigEndian.{be16, be32}

@@ -1,13 +1,10 @@
 -- What the definitions of a log come to, case by case.
-use Rattle.std.specs.Prelude.{◌≡◌, ℕ, zero, suc, ◌+◌, ◌-◌, ◌*◌, ◌/◌, ◌%◌, ◌<◌, ◌≤◌, min, Bool, true, false, cond, ◌&&◌, ◌≢◌, List, [], map, length, replicate, Some, None, Option, nat_le, nat_lt, slice_index_or}
-use Rattle.std.proofs.Common.{sym, subst, ◌∙◌, ⊎_elim, arith, add-one}
+use Rattle.std.specs.Prelude.{◌≡◌, ℕ, zero, suc, ◌+◌, ◌<◌, ◌≤◌, true, false, ◌&&◌, ◌≢◌, List, length, Some, None, nat_le, nat_lt, slice_index_or}
+use Rattle.std.proofs.Common.{subst, ◌∙◌, ⊎_elim, arith, add-one}
 use Rattle.std.proofs.Math.Path.{ap}
-use Rattle.std.specs.List.{range_with_len}
 use Rattle.std.proofs.lemmas.List.FromFn.{length-map-range_with_len, get_or-map-range_with_len}
 use Rattle.std.proofs.lemmas.Bool.{and_from, and_parts, and_left, and_right, le-leb, lt-leb, leb-true, lt-ltb, le-ltb, cases_lt, cases_Bool, cond-true, cond-false, eq-eqb, ne_eqb}
-use Rattle.words.specs.BigEndian.{be16, be32}
-use Rattle.append_log.specs.declared.head.Head.{Head}
-use Rattle.append_log.specs.Records.{used, total, start, number, body, in_range, valid, head_of, latest, count_of, room_of, log_blocks}
+use Rattle.append_log.specs.Records.{used, total, start, number, body, in_range, valid, head_of, latest, count_of, log_blocks}
 
 module _ (xs : List ℕ) where
   pub in_range_more : (k : ℕ) → in_range xs k ≡ true → number xs k < total xs → in_range xs (k + 1) ≡ true

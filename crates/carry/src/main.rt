@@ -40,7 +40,7 @@ fn carry_files(rt: &HostRuntime, log_path: &str, image_path: &str) -> anyhow::Re
     println!(rt; "{image_path}: {} blocks", image.count())?;
     match carry(rt.alloc(), &log, image) {
         Ok(carried) => finish(rt, image_path, head, carried),
-        Err(error) => Err(reason(error).into()),
+        Err(error) => Err(anyhow!(reason(error))),
     }
 }
 

@@ -1,7 +1,6 @@
-use Rattle.std.proofs.Common.{◌≡◌, ℕ, Bool, cond, List, set, is_ok, sym, ap, ◌∙◌, subst, arith, rules}
+use Rattle.std.proofs.Common.{◌≡◌, cond, set, is_ok, sym, ap, ◌∙◌, arith, rules}
 use Rattle.std.proofs.lemmas.Bool.Decides.{nat_tests}
 use Rattle.window.specs.View.{view, SameOutside}
-use Rattle.window.specs.declared.span.Span.{Span}
 use Rattle.window.proofs.Through.{through}
 use Rattle.stacks.proofs.write_within.Goals as goal
 

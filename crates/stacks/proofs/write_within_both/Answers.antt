@@ -1,4 +1,4 @@
-use Rattle.std.proofs.Common.{◌≡◌, ℕ, ◌+◌, ◌<◌, Bool, true, cond, List, length, set, is_ok, sym, ap, ◌∙◌, subst, arith, rules}
+use Rattle.std.proofs.Common.{◌≡◌, ◌+◌, ◌<◌, true, cond, length, set, is_ok, sym, ap, ◌∙◌, arith, rules}
 use Rattle.std.proofs.lemmas.Bool.Decides.{nat_tests}
 use Rattle.window.specs.View.{view, SameOutside}
 use Rattle.window.specs.Lawful.{in_view}
@@ -11,13 +11,13 @@ returns g c =
     let w = c.args.outer in
     let u = c.args.inner in
     let bs = contents c.args.device.now in
-    let cs = contents c.write-within.new.device.below.now in
+    let cs = contents c.write_within.new.device.below.now in
     let b = c.args.block in
     let x = c.args.source.now in
-    let r = is_ok c.write-within.result in
+    let r = is_ok c.write_within.result in
     let n = c.new-window.ensures in
-    let a = c.write-within.ensures in
-    let same_span : c.write-within.new.device.span ≡ w = sym a.keeps.1.0 ∙ n.blocks in
+    let a = c.write_within.ensures in
+    let same_span : c.write_within.new.device.span ≡ w = sym a.keeps.1.0 ∙ n.blocks in
     let v : view cs w ≡ cond r (set (view bs w) (u.start + b) x) (view bs w) = simp (same_span, n.device, n.blocks) at a.sets in
     let o : SameOutside w bs cs = simp (n.device, n.blocks) at a.keeps.1.1.0 in
     let s = simp (n.device, n.blocks) at a.served in

@@ -1,4 +1,4 @@
-use Rattle.std.proofs.Common.{◌≡◌, ◌+◌, ◌≤◌, length, get_or, sym, ap, ◌∙◌, arith, ltb-false}
+use Rattle.std.proofs.Common.{◌+◌, ◌≤◌, length, arith, ltb-false}
 use Rattle.std.proofs.lemmas.Bool.Decides.{nat_tests}
 use Rattle.words.proofs.Tails.{tail_at}
 use Rattle.words.proofs.u16_at.Goals as goal

@@ -15,13 +15,13 @@ returns c =
     let n = c.args.used in
     let b = c.args.block in
     let source = c.args.source.now in
-    let at = c.start-of-start.result in
-    let number = c.copy-from-slice.ensures.after ∙ c.to-be-bytes.ensures in
-    let count = c.copy-from-slice-3.ensures.after ∙ c.to-be-bytes-2.ensures in
-    let a = appended xs source n b at ((at + 2) - at) ((at + 514) - (at + 2)) 4 c.start-of-start.ensures c.requires.fits c.requires.whole (omega arith) c.requires.countable (omega arith) (omega arith) (omega arith) in
-    let e : written xs at c.copy-from-slice.new.self c.copy-from-slice-2.new.self c.copy-from-slice-3.new.self ≡ written xs at (bytes16 b) source (bytes32 (n + 1)) =
-    ap (λ ys. written xs at ys c.copy-from-slice-2.new.self c.copy-from-slice-3.new.self) number
-    ∙ ap (λ ys. written xs at (bytes16 b) ys c.copy-from-slice-3.new.self) c.copy-from-slice-2.ensures.after
+    let at = c.start_of-start.result in
+    let number = c.copy_from_slice.ensures.after ∙ c.to_be_bytes.ensures in
+    let count = c.copy_from_slice-3.ensures.after ∙ c.to_be_bytes-2.ensures in
+    let a = appended xs source n b at ((at + 2) - at) ((at + 514) - (at + 2)) 4 c.start_of-start.ensures c.requires.fits c.requires.whole (omega arith) c.requires.countable (omega arith) (omega arith) (omega arith) in
+    let e : written xs at c.copy_from_slice.new.self c.copy_from_slice-2.new.self c.copy_from_slice-3.new.self ≡ written xs at (bytes16 b) source (bytes32 (n + 1)) =
+    ap (λ ys. written xs at ys c.copy_from_slice-2.new.self c.copy_from_slice-3.new.self) number
+    ∙ ap (λ ys. written xs at (bytes16 b) ys c.copy_from_slice-3.new.self) c.copy_from_slice-2.ensures.after
     ∙ ap (written xs at (bytes16 b) source) count
     in
     subst (λ (ys : List ℕ). Appended xs ys n b source) (sym e) a

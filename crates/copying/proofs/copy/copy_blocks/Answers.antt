@@ -1,10 +1,10 @@
-use Rattle.std.proofs.Common.{◌≡◌, ℕ, ◌<◌, ◌≤◌, List, length, get_or, vec_items, vec_len, sym, ap, ◌∙◌, subst, arith, rules}
-use Rattle.copying.specs.Copies.{differing, laid}
+use Rattle.std.proofs.Common.{ℕ, ◌<◌, List, length, get_or, sym, ap, ◌∙◌, subst, arith}
+use Rattle.copying.specs.Copies.{laid}
 use Rattle.copying.proofs.Listed.{differing_below, laid-all}
 use Rattle.copying.proofs.copy.copy_blocks.Goals as goal
 
-pub write-all-requires : goal.write-all-requires
-write-all-requires g c =
+pub write_all-requires : goal.write_all-requires
+write_all-requires g c =
     let xs = g.S.Device.contents c.args.source.now in
     let ys = g.T.Device.contents c.args.target.now in
     let listed = c.deref.ensures.value ∙ c.in-Ok.ensures in
@@ -19,7 +19,7 @@ returns g c =
     let xs = g.S.Device.contents c.args.source.now in
     let ys = g.T.Device.contents c.args.target.now in
     let listed = c.deref.ensures.value ∙ c.in-Ok.ensures in
-    let w = c.write-all.ensures in
+    let w = c.write_all.ensures in
     record {
       ends = (
         c.in-Ok.ensures,

@@ -8,8 +8,8 @@ pub returns : goal.returns
 returns c =
     let v = c.args.self.now.bytes in
     let ws = c.write.new.bytes in
-    let n : length ws ≡ vec_len v = sym c.write.ensures.keeps.len ∙ c.deref-mut.ensures.len in
-    let d = c.deref-mut.ensures.value in
+    let n : length ws ≡ vec_len v = sym c.write.ensures.keeps.len ∙ c.deref_mut.ensures.len in
+    let d = c.deref_mut.ensures.value in
     let e = with_items_is v ws n in
     record {
       served = grind (arith, nat_tests);

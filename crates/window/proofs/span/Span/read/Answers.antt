@@ -4,8 +4,8 @@ use Rattle.window.specs.View.{view}
 use Rattle.window.specs.Lawful.{in_view, get_or-view}
 use Rattle.window.proofs.span.Span.read.Goals as goal
 
-pub overflow-add-self : goal.overflow-add-self
-overflow-add-self g c =
+pub overflow_add-self : goal.overflow_add-self
+overflow_add-self g c =
     let d = c.args.below.now in
     let bs = g.D.Device.contents d in
     let l : c.args.block < length (view bs c.args.self) = omega arith in

@@ -1,12 +1,12 @@
-use Rattle.std.proofs.Common.{◌≡◌, ℕ, ◌+◌, ◌<◌, List, length, is_ok, sym, ap, ◌∙◌, subst, arith}
+use Rattle.std.proofs.Common.{ℕ, ◌+◌, ◌<◌, List, length, is_ok, sym, ap, ◌∙◌, subst, arith}
 use Rattle.std.proofs.lemmas.Bool.Decides.{nat_tests}
 use Rattle.window.specs.View.{view, SameOutside}
 use Rattle.window.specs.Lawful.{in_view}
 use Rattle.window.proofs.Written.{view-after, outside_after}
 use Rattle.window.proofs.span.Span.write.Goals as goal
 
-pub overflow-add-self : goal.overflow-add-self
-overflow-add-self g c =
+pub overflow_add-self : goal.overflow_add-self
+overflow_add-self g c =
     let d = c.args.below.now in
     let bs = g.D.Device.contents d in
     let l : c.args.block < length (view bs c.args.self) = omega arith in
