@@ -1,13 +1,12 @@
 -- What a stored index tells: its header is lawful, its pointers lead to its buckets, and these hold its records.
-use Rattle.std.proofs.Common.{◌≡◌, ℕ, ◌+◌, ◌-◌, ◌*◌, ◌/◌, ◌^◌, ◌<◌, ◌≤◌, Bool, true, false, eqb, List, [], ◌∷◌, length, get_or, Some, sum_by, filter, Equal, sym, refl, ap, ◌∙◌, subst, ⊎_elim, arith}
-use Rattle.std.specs.List.{range_with_len, AllByRecursion as All}
+use Rattle.std.proofs.Common.{◌≡◌, ℕ, ◌+◌, ◌/◌, ◌^◌, ◌<◌, ◌≤◌, true, eqb, List, [], ◌∷◌, length, get_or, Some, sum_by, Equal, sym, refl, ap, ◌∙◌, subst, arith}
 use Rattle.std.specs.Ordering.{is_eq}
 use Rattle.std.proofs.lemmas.List.FromFn.{length-map-range_with_len, get_or-map-range_with_len}
 use Rattle.std.proofs.lemmas.Nat.{div_below}
 use Rattle.std.proofs.ByRecursion.{All-from_get_or}
 use Rattle.std.proofs.lemmas.List.Sums.{sum_by-cons}
 use Rattle.std.proofs.lemmas.Bool.{eq-eqb, cond-true, and_from, le-leb}
-use Rattle.kinds.specs.Kinds.{Kind, TotalOrder, AlikeHash, Bounded}
+use Rattle.kinds.specs.Kinds.{Kind, AlikeHash, Bounded}
 use Rattle.records.specs.Records.{key_of, weight, load}
 use Rattle.records.specs.Items.{records_in}
 use Rattle.records.specs.Searches.{key_at, Sorted}

@@ -1,9 +1,9 @@
 -- What one step of a split comes to: a light prefix is a bucket, a heavy one is split into its halves.
-use Rattle.std.proofs.Common.{◌≡◌, ℕ, zero, suc, ◌+◌, ◌-◌, ◌*◌, ◌/◌, ◌^◌, ◌<◌, ◌≤◌, Bool, true, false, cond, eqb, ltb, leb, List, [], ◌∷◌, ◌++◌, map, length, get_or, take, drop, sum_by, filter, Less, sym, refl, ap, ◌∙◌, subst, ⊎_elim, mul_assoc, mul_comm, add-mul, arith, length-append}
+use Rattle.std.proofs.Common.{◌≡◌, ℕ, suc, ◌+◌, ◌-◌, ◌*◌, ◌/◌, ◌^◌, ◌<◌, ◌≤◌, Bool, true, false, cond, eqb, ltb, leb, List, [], ◌∷◌, ◌++◌, map, length, get_or, take, drop, sum_by, Less, sym, refl, ap, ◌∙◌, subst, mul_assoc, mul_comm, add-mul, arith, length-append}
 use Rattle.std.specs.List.{AllByRecursion as All}
 use Rattle.std.proofs.lemmas.Nat.{pow-add, pow_pos, mul-le, div_below}
 use Rattle.std.proofs.lemmas.List.Edits.{length-between, get_or-between}
-use Rattle.std.proofs.ByRecursion.{All-weaker, All-from_get_or, kept_by_passes}
+use Rattle.std.proofs.ByRecursion.{All-weaker, kept_by_passes}
 use Rattle.std.proofs.lemmas.List.{append_assoc, map-append, take-take, drop-drop, drop-take}
 use Rattle.std.proofs.lemmas.Bool.{cond-true, eqb-true, leb-true, leb-false, ltb-false, both_ways}
 use Rattle.std.proofs.lemmas.Bool.Decides.{nat_tests}
@@ -12,12 +12,12 @@ use Rattle.records.specs.Records.{is_record, key_of, load}
 use Rattle.records.specs.Searches.{Sorted}
 use Rattle.records.proofs.Rising.{Rising, Before, sorted_rising}
 use Rattle.buckets.specs.Blocks.{bucket_bytes}
-use Rattle.shape.specs.Shapes.{Measure, under, prefix_of, is_light, Held, buckets}
-use Rattle.shape.specs.Buckets.{Leaf, leaves}
+use Rattle.shape.specs.Shapes.{under, prefix_of, is_light, buckets}
+use Rattle.shape.specs.Buckets.{leaves}
 use Rattle.shape.specs.Keyed.{by_key}
 use Rattle.shape.proofs.Halves.{held_light, held_here, held_low, held_high, held_both}
 use Rattle.shape.proofs.Rooms.{half_of, under-under}
-use Rattle.shape.proofs.Leaves.{leaf, first_within, leaves_light, leaves_heavy, length-leaves}
+use Rattle.shape.proofs.Leaves.{first_within, leaves_light, leaves_heavy, length-leaves}
 use Rattle.shape.proofs.Cuts.{Up, cut_low, cut_high}
 use Rattle.index.specs.Stored.{prefix_at}
 use Rattle.index.proofs.Reading.{load-sum, sorted_under}

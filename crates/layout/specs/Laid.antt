@@ -1,5 +1,5 @@
 -- Buckets laid out in memory.
-use Rattle.std.specs.Prelude.{◌≡◌, ℕ, ◌+◌, ◌-◌, ◌≤◌, Bool, true, false, List, ◌++◌, map, length, take, drop}
+use Rattle.std.specs.Prelude.{◌≡◌, ℕ, ◌+◌, ◌-◌, ◌≤◌, Bool, true, false, List, ◌++◌, map, take, drop}
 use Rattle.kinds.specs.Kinds.{Kind}
 use Rattle.shape.specs.Shapes.{Held, buckets}
 use Rattle.shape.specs.Buckets.{Leaf, leaves}

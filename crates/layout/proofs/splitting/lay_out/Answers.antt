@@ -1,13 +1,12 @@
-use Rattle.std.proofs.Common.{◌≡◌, ℕ, ◌+◌, ◌-◌, ◌*◌, ◌/◌, ◌^◌, ◌≤◌, List, [], ◌++◌, map, length, take, drop, sum_by, sym, ap, ◌∙◌, subst, arith}
+use Rattle.std.proofs.Common.{◌≡◌, ◌+◌, ◌-◌, ◌*◌, ◌/◌, ◌^◌, ◌≤◌, ◌++◌, map, sum_by, sym, ap, ◌∙◌, subst, arith}
 use Rattle.std.proofs.lemmas.List.{take_all}
-use Rattle.records.specs.Records.{load, weight}
-use Rattle.records.specs.Searches.{Sorted}
+use Rattle.records.specs.Records.{weight}
 use Rattle.shape.specs.Shapes.{under, buckets}
 use Rattle.shape.specs.Buckets.{leaves}
 use Rattle.shape.specs.Keyed.{by_key}
 use Rattle.shape.proofs.Leaves.{few_buckets}
 use Rattle.index.proofs.Reading.{load-sum}
-use Rattle.layout.specs.Laid.{blocks_of, leaf_block, span, SplitInto}
+use Rattle.layout.specs.Laid.{leaf_block, span, SplitInto}
 use Rattle.layout.proofs.Splits.{slot_prefix}
 use Rattle.layout.proofs.splitting.lay_out.Goals as goal
 

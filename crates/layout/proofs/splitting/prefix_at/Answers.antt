@@ -1,10 +1,10 @@
-use Rattle.std.proofs.Common.{◌≡◌, ℕ, ◌+◌, ◌-◌, ◌*◌, ◌%◌, ◌^◌, ◌<◌, ap, arith}
+use Rattle.std.proofs.Common.{◌≡◌, ℕ, ◌+◌, ◌-◌, ◌*◌, ◌%◌, ◌^◌, ap, arith}
 use Rattle.buckets.specs.declared.prefix.Prefix.{Prefix}
 use Rattle.layout.proofs.Splits.{top_small}
 use Rattle.layout.proofs.splitting.prefix_at.Goals as goal
 
-pub overflow-cast-result-2 : goal.overflow-cast-result-2
-overflow-cast-result-2 c = omega (arith, top_small c.args.room c.args.prefix c.requires.1)
+pub overflow_cast-result-2 : goal.overflow_cast-result-2
+overflow_cast-result-2 c = omega (arith, top_small c.args.room c.args.prefix c.requires.1)
 
 pub returns : goal.returns
 returns c =

@@ -1,4 +1,4 @@
-use Rattle.std.proofs.Common.{◌≡◌, ◌+◌, ◌/◌, ◌^◌, ap, ◌∙◌}
+use Rattle.std.proofs.Common.{◌+◌, ◌/◌, ◌^◌, ap, ◌∙◌}
 use Rattle.shape.specs.Shapes.{prefix_of}
 use Rattle.layout.proofs.splitting.prefix_of.Goals as goal
 
