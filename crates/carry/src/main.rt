@@ -11,14 +11,17 @@ use carrying::carry;
 use copying::CopyError;
 use device::Device;
 use image::ImageBuf;
+use std::process::ExitCode;
 use std::{env, fs, io};
 
-fn main(rt: HostRuntime) -> anyhow::Result<()> {
-    let ran = run(&rt);
-    if let Err(error) = &ran {
-        eprintln!(rt; "carry: {error}")?;
+fn main(rt: HostRuntime) -> ExitCode {
+    match run(&rt) {
+        Ok(()) => ExitCode::SUCCESS,
+        Err(error) => {
+            let _ = eprintln!(rt; "carry: {error}");
+            ExitCode::FAILURE
+        }
     }
-    ran
 }
 
 fn run(rt: &HostRuntime) -> anyhow::Result<()> {

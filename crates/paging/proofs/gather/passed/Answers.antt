@@ -1,8 +1,9 @@
-use Rattle.std.proofs.Common.{◌≡◌, ℕ, ◌<◌, true, false, eqb, ◌≢◌, List, length, get_or, drop, Equal, sym, ap, ◌∙◌, ⊎_elim, add-one, arith}
+use Rattle.std.proofs.Common.{◌≡◌, ◌==◌, ℕ, ◌<◌, true, false, eqb, ◌≢◌, List, length, get_or, Equal, sym, ap, ◌∙◌, ⊎_elim, add-one, arith}
 use Rattle.std.proofs.lemmas.Bool.{or_cases, both_ways, cond-false}
 use Rattle.std.proofs.lemmas.Bool.Decides.{nat_tests}
 use Rattle.kinds.specs.Kinds.{Kind, position}
-use Rattle.kinds.proofs.Positions.{alike-position}
+use Rattle.std.specs.Ordering.{ordering_index}
+use Rattle.kinds.proofs.Positions.{alike-position, equal_from_index}
 use Rattle.records.specs.Items.{records_in}
 use Rattle.records.specs.Ordered.{after}
 use Rattle.records.specs.Searches.{key_at}
@@ -25,8 +26,8 @@ apart kind a b n e = n (grind (arith, nat_tests))
 count_small : (xs : List ℕ) → get_or xs 2 0 < 256 → get_or xs 3 0 < 256 → length (records_in xs) < 65536
 count_small xs a b = let n = length-records_in xs in grind (arith, nat_tests)
 
-pub overflow-add-result : goal.overflow-add-result
-overflow-add-result g c =
+pub overflow_add-result : goal.overflow_add-result
+overflow_add-result g c =
     let told = c.in-Some.ensures in
     let xs = c.args.block.now in
     let a : get_or xs 2 0 < 256 = omega (arith, c.type_inv.block 2) in
@@ -39,13 +40,13 @@ returns-then-eq g c = λ s b.
     let o = g.met.K.KeyKind.ordered in
     let rs = records_in c.args.block.now in
     let key = c.args.bookmark.now in
-    let n = c.place-for-place.result in
-    let some : eqb (length key) 0 ≡ false = sym c.is-empty.ensures ∙ c.if-is-empty.false in
+    let n = c.place_for-place.result in
+    let some : eqb (length key) 0 ≡ false = sym c.is_empty.ensures ∙ c.if-is_empty.false in
     let lk = key_lawful kind key some b in
     let told = c.in-Some.ensures in
-    let alike : kind.order (key_at rs n) key ≡ Equal = sym (c.compare.ensures ∙ ap (λ k. kind.order k key) told.2) ∙ c.eq.ensures.0 c.if-eq.true in
+    let alike : kind.order (key_at rs n) key ≡ Equal = sym (c.compare.ensures ∙ ap (λ k. kind.order k key) told.2) ∙ equal_from_index _ (sym c.eq.ensures ∙ c.if-eq.true) in
     let at = alike-position kind g.met.K.KeyKind.level (key_at rs n) key (s.keyed n told.0) lk alike in
-    let found = after-found kind o key lk rs s n c.place-for-place.ensures.within (c.place-for-place.ensures.place s lk) told.0 at in
+    let found = after-found kind o key lk rs s n c.place_for-place.ensures.within (c.place_for-place.ensures.place s lk) told.0 at in
     let next = add-one n in
     let all = follows kind key rs some ∙ found in
     cc
@@ -56,13 +57,13 @@ returns-else-eq g c = λ s b.
     let o = g.met.K.KeyKind.ordered in
     let rs = records_in c.args.block.now in
     let key = c.args.bookmark.now in
-    let n = c.place-for-place.result in
-    let some : eqb (length key) 0 ≡ false = sym c.is-empty.ensures ∙ c.if-is-empty.false in
+    let n = c.place_for-place.result in
+    let some : eqb (length key) 0 ≡ false = sym c.is_empty.ensures ∙ c.if-is_empty.false in
     let lk = key_lawful kind key some b in
     let told = c.in-Some.ensures in
     let compared : c.compare.result ≡ kind.order (key_at rs n) key = c.compare.ensures ∙ ap (λ k. kind.order k key) told.2 in
-    let new : position kind (key_at rs n) key ≢ Equal = apart kind (key_at rs n) key (λ e. both_ways _ c.if-eq.false (c.eq.ensures.1 (compared ∙ e))) in
-    sym (follows kind key rs some ∙ after-new kind o key lk rs s n c.place-for-place.ensures.within (c.place-for-place.ensures.place s lk) (λ _. new))
+    let new : position kind (key_at rs n) key ≢ Equal = apart kind (key_at rs n) key (λ e. both_ways _ c.if-eq.false (c.eq.ensures ∙ ap (λ o. ordering_index o == 1) (compared ∙ e))) in
+    sym (follows kind key rs some ∙ after-new kind o key lk rs s n c.place_for-place.ensures.within (c.place_for-place.ensures.place s lk) (λ _. new))
 
 pub returns-in-None : goal.returns-in-None
 returns-in-None g c = λ s b.
@@ -70,7 +71,7 @@ returns-in-None g c = λ s b.
     let o = g.met.K.KeyKind.ordered in
     let rs = records_in c.args.block.now in
     let key = c.args.bookmark.now in
-    let n = c.place-for-place.result in
-    let some : eqb (length key) 0 ≡ false = sym c.is-empty.ensures ∙ c.if-is-empty.false in
+    let n = c.place_for-place.result in
+    let some : eqb (length key) 0 ≡ false = sym c.is_empty.ensures ∙ c.if-is_empty.false in
     let lk = key_lawful kind key some b in
-    sym (follows kind key rs some ∙ after-new kind o key lk rs s n c.place-for-place.ensures.within (c.place-for-place.ensures.place s lk) (λ l. absurd (both_ways _ c.in-None.ensures (s.whole n l))))
+    sym (follows kind key rs some ∙ after-new kind o key lk rs s n c.place_for-place.ensures.within (c.place_for-place.ensures.place s lk) (λ l. absurd (both_ways _ c.in-None.ensures (s.whole n l))))

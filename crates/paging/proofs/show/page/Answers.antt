@@ -19,11 +19,11 @@ shows size n was all is whole e z t =
     let r : fitting (size - used was) all ≡ fitting (n - 4) all = ap (λ k. fitting (k - used was) all) e ∙ ap (λ xs. fitting (n - used xs) all) z in
     (t.shown ∙ ap (λ xs. xs ++ fitting (size - used was) all) z ∙ r, t.told ∙ ap (λ xs. eqb (length xs) (length all)) r)
 
-pub returns-in-default-read-header : goal.returns-in-default-read-header
-returns-in-default-read-header g c =
+pub returns-in_default-read_header : goal.returns-in_default-read_header
+returns-in_default-read_header g c =
     let kind = g.K.KeyKind.kind in
-    let ok = sym c.is-bookmark.ensures ∙ c.if-not-is-bookmark.false in
-    let never : (rs : List (List ℕ)) → Stored kind (g.D.Device.contents c.args.device.now) c.args.head rs → ⊥ = λ rs st. some_none c.read-header.result _ (c.read-header.ensures.told kind rs st) c.in-default-read-header.is in
+    let ok = sym c.is_bookmark.ensures ∙ c.if-not-is_bookmark.false in
+    let never : (rs : List (List ℕ)) → Stored kind (g.D.Device.contents c.args.device.now) c.args.head rs → ⊥ = λ rs st. some_none c.read_header.result _ (c.read_header.ensures.told kind rs st) c.in_default-read_header.is in
     record {
       fault = sym (fine kind c.args.bookmark.now (length c.args.buffer.now) c.in-Some.ensures.0 ok);
       left = λ _. refl;
@@ -31,15 +31,15 @@ returns-in-default-read-header g c =
       bytes = λ rs st f. absurd (never rs st);
     }
 
-pub returns-in-default-gather : goal.returns-in-default-gather
-returns-in-default-gather g c =
+pub returns-in_default-gather : goal.returns-in_default-gather
+returns-in_default-gather g c =
     let kind = g.K.KeyKind.kind in
     let bookmark = c.args.bookmark.now in
     let blocks = g.D.Device.contents c.args.device.now in
     let head = c.args.head in
-    let ok = sym c.is-bookmark.ensures ∙ c.if-not-is-bookmark.false in
+    let ok = sym c.is_bookmark.ensures ∙ c.if-not-is_bookmark.false in
     let never : (rs : List (List ℕ)) → Stored kind blocks head rs → ⊥ = λ rs st.
-    c.in-default-gather.ensures.took head rs st c.in-Some-read-header.ensures.read ok in
+    c.in_default-gather.ensures.took head rs st c.in-Some-read_header.ensures.read ok in
     record {
       fault = sym (fine kind bookmark (length c.args.buffer.now) c.in-Some.ensures.0 ok);
       left = λ _. refl;
@@ -55,7 +55,7 @@ returns-in-Some-finish g c =
     let n = length buffer in
     let blocks = g.D.Device.contents c.args.device.now in
     let head = c.args.head in
-    let ok = sym c.is-bookmark.ensures ∙ c.if-not-is-bookmark.false in
+    let ok = sym c.is_bookmark.ensures ∙ c.if-not-is_bookmark.false in
     let p = c.in-Some.builder in
     let q = c.gather.new.page in
     let end = c.in-Some-gather.end in
@@ -68,7 +68,7 @@ returns-in-Some-finish g c =
     let page : c.finish.new.buffer ≡ page_bytes (gathered q) end buffer = cc in
     let taken : (rs : List (List ℕ)) → Stored kind blocks head rs → (gathered q ≡ shown kind bookmark n rs) × (end ≡ is_end kind bookmark n rs) = λ rs st.
     shows p.size n (gathered p) (following kind bookmark rs) (gathered q) end new.1 new.2
-    (c.in-Some-gather.ensures.took head rs st c.in-Some-read-header.ensures.read ok) in
+    (c.in-Some-gather.ensures.took head rs st c.in-Some-read_header.ensures.read ok) in
     record {
       fault = sym (fine kind bookmark n new.0 ok);
       left = λ e. absurd (true≢false e);

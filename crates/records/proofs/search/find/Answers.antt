@@ -1,15 +1,10 @@
-use Rattle.std.proofs.Common.{◌≡◌, ◌==◌, true, Ordering, Less, Equal, Greater, refl, sym, ap, ◌∙◌, arith}
+use Rattle.std.proofs.Common.{◌≡◌, sym, ap, ◌∙◌, arith}
 use Rattle.std.specs.Ordering.{ordering_index}
+use Rattle.kinds.proofs.Positions.{equal_from_index}
 use Rattle.records.specs.Items.{records_in}
 use Rattle.records.specs.Searches.{key_at}
 use Rattle.records.proofs.Halved.{none_alike}
 use Rattle.records.proofs.search.find.Goals as goal
-
--- what `==` against `Equal` tells
-equal_from_index : (o : Ordering) → (ordering_index o == 1) ≡ true → o ≡ Equal
-equal_from_index Less e = grind arith
-equal_from_index Equal e = refl
-equal_from_index Greater e = grind arith
 
 pub returns-in_err-found : goal.returns-in_err-found
 returns-in_err-found g c =
