@@ -1,5 +1,5 @@
 -- What a choice between something and nothing tells.
-use Rattle.std.proofs.Common.{◌≡◌, Bool, true, false, cond, Some, None, Ok, Err, Option, Result, refl, arith, MatchResult}
+use Rattle.std.proofs.Common.{◌≡◌, Bool, true, false, cond, Some, None, Ok, Err, Result, refl, arith, MatchResult}
 
 pub some_told : {X : Type 0} (b : Bool) (x y : X) → Some x ≡ cond b (Some y) None → (b ≡ true) × (x ≡ y)
 some_told true x y e = (refl, cc)

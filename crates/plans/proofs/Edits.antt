@@ -1,5 +1,5 @@
 -- Putting and removing a located key, as changes of its bucket's records.
-use Rattle.std.proofs.Common.{◌≡◌, ℕ, zero, suc, ◌+◌, ◌-◌, ◌/◌, ◌^◌, ◌<◌, ◌≤◌, Bool, true, false, cond, ◌&&◌, ltb, leb, ◌≢◌, List, [], ◌∷◌, ◌++◌, length, get_or, take, drop, Some, None, sym, refl, ap, ◌∙◌, subst, ⊎_elim, arith}
+use Rattle.std.proofs.Common.{◌≡◌, ℕ, zero, suc, ◌+◌, ◌-◌, ◌/◌, ◌^◌, ◌<◌, ◌≤◌, Bool, true, false, cond, ◌&&◌, ltb, leb, List, [], ◌∷◌, ◌++◌, length, take, drop, Some, None, sym, ap, ◌∙◌, subst, ⊎_elim, arith}
 use Rattle.std.specs.List.{insert, remove}
 use Rattle.std.proofs.lemmas.Bool.{cases_Bool, both_ways, and_from, and_parts, lt-ltb, le-leb, leb-true, cond_both}
 use Rattle.kinds.specs.Kinds.{Kind, TotalOrder, AlikeHash, Bounded}
@@ -10,10 +10,10 @@ use Rattle.records.specs.Ordered.{put, without, alike}
 use Rattle.records.proofs.Halved.{none_alike}
 use Rattle.records.proofs.Alike.{alike-found, alike-absent}
 use Rattle.buckets.specs.declared.prefix.Prefix.{Prefix}
-use Rattle.shape.specs.Shapes.{under, prefix_of, Held}
+use Rattle.shape.specs.Shapes.{under, prefix_of}
 use Rattle.shape.specs.Keyed.{by_key}
 use Rattle.shape.proofs.Rooms.{room_le}
-use Rattle.index.specs.Stored.{Blocks, block, room_at, prefix_at, Stored}
+use Rattle.index.specs.Stored.{Blocks, room_at, prefix_at, Stored}
 use Rattle.index.proofs.Reading.{alike-under, sorted_under, slot_below, bucket-light}
 use Rattle.plans.specs.declared.located.Located.{Located}
 use Rattle.plans.specs.Locating.{LocatedIn}

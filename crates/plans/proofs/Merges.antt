@@ -1,25 +1,21 @@
 -- A bucket and the one beside it.
-use Rattle.std.proofs.Common.{◌≡◌, ℕ, zero, suc, ◌+◌, ◌-◌, ◌*◌, ◌/◌, ◌%◌, ◌^◌, ◌<◌, ◌≤◌, Bool, true, false, cond, eqb, leb, List, [], ◌∷◌, ◌++◌, map, length, get_or, sum_by, sym, refl, ap, ◌∙◌, subst, ⊎_elim, arith}
-use Rattle.std.proofs.lemmas.Nat.{pow_pos, div-add-mod'}
+use Rattle.std.proofs.Common.{◌≡◌, ℕ, zero, suc, ◌+◌, ◌-◌, ◌*◌, ◌/◌, ◌%◌, ◌^◌, ◌<◌, ◌≤◌, Bool, true, false, cond, eqb, List, [], ◌∷◌, ◌++◌, get_or, sym, ap, ◌∙◌, subst, ⊎_elim, arith}
+use Rattle.std.proofs.lemmas.Nat.{div-add-mod'}
 use Rattle.std.proofs.lemmas.List.{map-append}
 use Rattle.std.proofs.lemmas.Bool.{cases_lt, cases_eq, cases_Bool, both_ways, eqb-true, eqb-false, eq-eqb, cond-true, cond-false, leb-true}
 use Rattle.kinds.specs.Kinds.{Kind}
-use Rattle.records.specs.Records.{load, weight}
 use Rattle.records.specs.Items.{records_in}
-use Rattle.records.specs.Searches.{Sorted}
 use Rattle.records.proofs.Rising.{sorted_rising}
-use Rattle.buckets.specs.Blocks.{bucket_bytes}
 use Rattle.buckets.proofs.Held.{records_back}
 use Rattle.shape.specs.Shapes.{under, is_light}
-use Rattle.shape.specs.Buckets.{Leaf, leaves, first_slot}
+use Rattle.shape.specs.Buckets.{leaves, first_slot}
 use Rattle.shape.specs.Keyed.{by_key}
-use Rattle.shape.proofs.Rooms.{half_of, room_le, room_light, room_above, light-off, light_down, heavy_up}
+use Rattle.shape.proofs.Rooms.{half_of, room_light, room_above, light-off, light_down, heavy_up}
 use Rattle.shape.proofs.Leaves.{leaf, first_within, leaves_zero, leaves_light, leaves_heavy}
 use Rattle.shape.proofs.Cuts.{under_halves}
-use Rattle.index.specs.Stored.{Blocks, block, slots, room_at, prefix_at, bucket_at, Stored, BucketIn, pointers, times}
+use Rattle.index.specs.Stored.{Blocks, block, slots, room_at, prefix_at, Stored, BucketIn, pointers, times}
 use Rattle.index.proofs.Reading.{load-sum}
 use Rattle.layout.proofs.Splits.{rising_up}
-use Rattle.plans.specs.Planned.{Differ}
 use Rattle.plans.specs.Merging.{in_order, Under}
 use Rattle.plans.proofs.Places.{number_is, bits_is, room_is, holds-is}
 

@@ -1,6 +1,6 @@
 -- What is read of the bucket of a key.
-use Rattle.std.proofs.Common.{◌≡◌, ℕ, ◌-◌, ◌/◌, ◌^◌, ◌<◌, ◌≤◌, true, List, length, get_or, sym, refl, ap, ◌∙◌, subst, arith}
-use Rattle.kinds.specs.Kinds.{Kind, Bounded}
+use Rattle.std.proofs.Common.{◌≡◌, ℕ, ◌-◌, ◌/◌, ◌^◌, ◌<◌, List, get_or, sym, refl, ap, ◌∙◌, subst, arith}
+use Rattle.kinds.specs.Kinds.{Kind}
 use Rattle.records.specs.Items.{records_in}
 use Rattle.records.specs.Searches.{Sorted}
 use Rattle.buckets.specs.declared.prefix.Prefix.{Prefix}

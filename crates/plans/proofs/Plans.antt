@@ -1,15 +1,14 @@
 -- What a change of one bucket's records comes to for all.
-use Rattle.std.proofs.Common.{◌≡◌, ℕ, ◌+◌, ◌/◌, ◌^◌, ◌<◌, ◌≤◌, Bool, true, false, cond, leb, List, [], ◌∷◌, ◌++◌, map, length, get_or, sum_by, sym, refl, ap, ◌∙◌, subst, ⊎_elim, arith}
+use Rattle.std.proofs.Common.{◌≡◌, ℕ, ◌/◌, ◌^◌, ◌<◌, ◌≤◌, true, false, List, [], ◌∷◌, map, length, get_or, sum_by, sym, ap, ◌∙◌, subst, ⊎_elim, arith}
 use Rattle.std.proofs.lemmas.Bool.{cases_eq, le-leb, lt-leb, leb-true}
 use Rattle.kinds.specs.Kinds.{Kind, Bounded}
 use Rattle.records.specs.Records.{load, weight}
-use Rattle.buckets.specs.Blocks.{bucket_bytes}
-use Rattle.shape.specs.Shapes.{under, is_light, Held, buckets}
+use Rattle.shape.specs.Shapes.{is_light, Held}
 use Rattle.shape.specs.Buckets.{leaves}
 use Rattle.shape.specs.Keyed.{by_key}
 use Rattle.shape.proofs.Halves.{held_light}
 use Rattle.shape.proofs.Rooms.{prefix_up, room_le, room_above, heavy_up}
-use Rattle.shape.proofs.Leaves.{leaf, leaves_light, length-leaves}
+use Rattle.shape.proofs.Leaves.{leaves_light, length-leaves}
 use Rattle.index.specs.Stored.{Blocks, block, slots, room_at, bucket_at, pointers, times}
 use Rattle.index.proofs.Reading.{load-sum, slot_small}
 use Rattle.layout.specs.declared.table.Buckets.{Buckets}

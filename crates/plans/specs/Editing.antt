@@ -1,5 +1,5 @@
 -- A change of the records under one bucket's prefix.
-use Rattle.std.specs.Prelude.{◌≡◌, ℕ, ◌/◌, ◌^◌, ◌<◌, ◌≤◌, Bool, true, false, cond, List, [], length, Some, None, Ok, Err, Option, Result, slice_index}
+use Rattle.std.specs.Prelude.{◌≡◌, ℕ, ◌/◌, ◌^◌, ◌<◌, Bool, false, cond, List, [], length, Some, None, Ok, Err, Option, Result, slice_index}
 use Rattle.std.specs.List.{remove}
 use Rattle.kinds.specs.Kinds.{Kind}
 use Rattle.records.specs.Records.{is_record, key_of}

@@ -1,11 +1,11 @@
 -- A planned change of an index, and what it is that it was made.
-use Rattle.std.specs.Prelude.{◌≡◌, ℕ, ◌+◌, ◌/◌, ◌^◌, ◌<◌, ◌≤◌, true, false, List, [], ◌∷◌, ◌++◌, length, take, ◌≢◌, slice_index}
+use Rattle.std.specs.Prelude.{◌≡◌, ℕ, ◌+◌, ◌/◌, ◌^◌, ◌<◌, ◌≤◌, false, List, ◌∷◌, length, take, ◌≢◌, slice_index}
 use Rattle.kinds.specs.Kinds.{Kind}
 use Rattle.records.specs.Searches.{Sorted}
 use Rattle.shape.specs.Shapes.{under, is_light, Held}
 use Rattle.shape.specs.Buckets.{leaves}
 use Rattle.shape.specs.Keyed.{by_key}
-use Rattle.index.specs.Stored.{Blocks, block, slots, room_at, Stored, bucket_at, pointers, home, times}
+use Rattle.index.specs.Stored.{Blocks, block, slots, room_at, Stored, pointers, home, times}
 use Rattle.layout.specs.Laid.{LaidOut}
 use Rattle.plans.specs.declared.numbers.Numbers.{Numbers}
 use Rattle.plans.specs.declared.plan.Plan.{Plan}

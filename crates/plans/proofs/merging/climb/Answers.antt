@@ -1,9 +1,7 @@
-use Rattle.std.proofs.Common.{◌≡◌, ℕ, suc, ◌+◌, ◌/◌, ◌^◌, ◌<◌, ◌≤◌, true, false, ltb, List, [], ◌∷◌, ◌++◌, Some, None, Ok, Err, sym, ap, ◌∙◌, subst, add-one, arith}
+use Rattle.std.proofs.Common.{◌≡◌, ℕ, suc, true, [], ◌∷◌, ◌++◌, Ok, sym, ap, ◌∙◌, subst, add-one, arith}
 use Rattle.std.proofs.lemmas.Bool.{cond-true, lt-ltb}
-use Rattle.shape.specs.Shapes.{is_light}
-use Rattle.shape.specs.Keyed.{by_key}
 use Rattle.plans.specs.Planned.{numbers_of}
-use Rattle.plans.specs.Merging.{Under, Joins, JoinEnds, Reached, Merged}
+use Rattle.plans.specs.Merging.{Joins, JoinEnds, Reached}
 use Rattle.plans.proofs.Climbs.{reached_start, reached_more, merged_end}
 use Rattle.plans.proofs.merging.climb.Goals as goal
 
@@ -33,7 +31,7 @@ loop-room-preserved g c =
           let header = c.args.header.now in
           let r = inv.3 kind head old new u e in
           let ends = c.join.ensures kind head old new r.under in
-          let was = c.in-ok-beside.was in
+          let was = c.in_ok-beside.was in
           let j : Joins kind header old new c.args.slot room beside
           = subst (JoinEnds kind header old new c.args.slot room) (was ∙ ap Ok c.in-Some.is) ends in
           subst (λ k. Reached kind blocks head header old new c.args.slot k beside.block (numbers_of c.push.new.self)) (sym (add-one room))
@@ -41,21 +39,21 @@ loop-room-preserved g c =
           (reached_more kind blocks head header old new c.args.slot room c.loop-room.block (numbers_of given) beside r j)),
     )
 
-pub returns-in-err-beside : goal.returns-in-err-beside
-returns-in-err-beside g c = λ kind head old new u e.
+pub returns-in_err-beside : goal.returns-in_err-beside
+returns-in_err-beside g c = λ kind head old new u e.
     let r = c.loop-room.invariant.3 kind head old new u e in
     let ends = c.join.ensures kind head old new r.under in
-    absurd (subst (JoinEnds kind c.args.header.now old new c.args.slot c.loop-room.room) c.in-err-beside.was ends)
+    absurd (subst (JoinEnds kind c.args.header.now old new c.args.slot c.loop-room.room) c.in_err-beside.was ends)
 
 pub returns-after-loop-room : goal.returns-after-loop-room
 returns-after-loop-room g c = λ kind head old new u e.
     let inv = c.loop-room.invariant in
     merged_end kind (g.D.Device.contents c.args.device.now) head c.args.header.now old new c.args.slot _ inv.0 (inv.3 kind head old new u e) (λ l. absurd (omega (arith, c.loop-room-test.false)))
 
-pub returns-in-default : goal.returns-in-default
-returns-in-default g c = λ kind head old new u e.
+pub returns-in_default : goal.returns-in_default
+returns-in_default g c = λ kind head old new u e.
     let inv = c.loop-room.invariant in
     let r = inv.3 kind head old new u e in
     let ends = c.join.ensures kind head old new r.under in
-    let heavy = subst (JoinEnds kind c.args.header.now old new c.args.slot c.loop-room.room) (c.in-ok-beside.was ∙ ap Ok c.in-default.is) ends in
+    let heavy = subst (JoinEnds kind c.args.header.now old new c.args.slot c.loop-room.room) (c.in_ok-beside.was ∙ ap Ok c.in_default.is) ends in
     merged_end kind (g.D.Device.contents c.args.device.now) head c.args.header.now old new c.args.slot _ inv.0 r (λ l. heavy)
