@@ -1,7 +1,7 @@
 -- Listings, and what every listing in a history shows.
 use Rattle.std.specs.Prelude.{◌≡◌, ℕ, ◌+◌, Bool, true, false, cond, List, [], ◌∷◌, ◌++◌, is_some, Some, None, Option}
 use Rattle.std.specs.Ordering.{is_lt}
-use Rattle.std.specs.List.{AllByRecursion as All}
+use Rattle.std.specs.List.{AllByRecursion}
 use Rattle.kinds.specs.Kinds.{Kind, position}
 use Rattle.records.specs.Records.{key_of}
 use Rattle.pages.specs.Contents.{page_records}
@@ -69,11 +69,11 @@ pub record Shows (kind : Kind) (folder : ℕ) (s : State) (r : List ℕ) : Type 
 -- what a listing promises
 pub record Complete (kind : Kind) (folder : ℕ) (es : List Event) (listed : List (List ℕ)) : Type 0 where
   -- a name that is in the folder after each of the calls is listed once
-  pub stays : (name : List ℕ) → kind.lawful name ≡ true → All (λ e. is_in kind folder name e ≡ true) es → times kind name listed ≡ 1
+  pub stays : (name : List ℕ) → kind.lawful name ≡ true → AllByRecursion (λ e. is_in kind folder name e ≡ true) es → times kind name listed ≡ 1
   -- a name that is in it after none of them is not listed
-  pub absent : (name : List ℕ) → kind.lawful name ≡ true → All (λ e. is_in kind folder name e ≡ false) es → times kind name listed ≡ 0
+  pub absent : (name : List ℕ) → kind.lawful name ≡ true → AllByRecursion (λ e. is_in kind folder name e ≡ false) es → times kind name listed ≡ 0
   -- each page shows what tree and register hold after it
-  pub shows : All (λ e. (b : List ℕ) (rs : List (List ℕ)) (end : Bool) → Page folder b e rs end → All (Shows kind folder e.left) rs) es
+  pub shows : AllByRecursion (λ e. (b : List ℕ) (rs : List (List ℕ)) (end : Bool) → Page folder b e rs end → AllByRecursion (Shows kind folder e.left) rs) es
   -- and the names rise
   pub rising : Rising kind [] listed
 

@@ -1,6 +1,6 @@
 -- The indexes of a tree: the register of its objects, and one for each folder.
 use Rattle.std.specs.Prelude.{ℕ, ◌+◌, Bool, true, ◌&&◌, List, [], ◌∷◌, ◌++◌, map, length, sum_by, filter, slice_index}
-use Rattle.std.specs.List.{AllByRecursion as All}
+use Rattle.std.specs.List.{AllByRecursion}
 use Rattle.words.specs.BigEndian.{be32, bytes16, bytes32}
 use Rattle.kinds.specs.Kinds.{Kind}
 use Rattle.kinds.specs.Numbers.{register_numbers}
@@ -57,7 +57,7 @@ HeldIndex kind rs = Held (by_key kind) 7 0 rs
 -- every index of the tree can be held
 pub record HeldTree (kind : Kind) (tree : Tree) : Type 0 where
   pub register : HeldIndex register_numbers (register_records tree.objects)
-  pub folders : All (λ o. HeldIndex kind (folder_records kind tree.objects o.number)) (filter is_folder tree.objects)
+  pub folders : AllByRecursion (λ o. HeldIndex kind (folder_records kind tree.objects o.number)) (filter is_folder tree.objects)
 
 -- every object of a list passes a test
 abbrev pub every : (Object → Bool) → List Object → Bool

@@ -1,6 +1,6 @@
 -- What holds over runs of calls, whatever they are.
 use Rattle.std.specs.Prelude.{◌≡◌, ℕ, ◌+◌, ◌<◌, ◌≤◌, Bool, true, false, ◌&&◌, List, [], ◌∷◌, ◌++◌, length, Decides, count_by, Option, ◌≢◌}
-use Rattle.std.specs.List.{AllByRecursion as All}
+use Rattle.std.specs.List.{AllByRecursion}
 use Rattle.kinds.specs.Kinds.{Kind}
 use Rattle.model.specs.declared.refusal.Refusal.{Refusal}
 use Rattle.model.specs.declared.refusal.Refusal.TheVariants.{Unsound}
@@ -21,7 +21,7 @@ OfTree P (live tree leases) = P tree
 abbrev pub OverRuns : (Kind → ℕ → Tree → Type 0) → Type 0
 OverRuns P =
     (kind : Kind) → KeepsLaws kind → (count : ℕ) (image : Option Tree) → SoundState kind count (idle image)
-    → (calls : List Brought) → All (λ e. OfTree (P kind count) e.left) (history kind count (idle image) calls)
+    → (calls : List Brought) → AllByRecursion (λ e. OfTree (P kind count) e.left) (history kind count (idle image) calls)
 
 -- the tree stays sound
 abbrev pub StaysSound : Type 0
@@ -29,7 +29,7 @@ StaysSound = OverRuns (λ kind count tree. Sound kind count tree)
 
 -- every object's parents lead to the root
 abbrev pub ParentsLead : Type 0
-ParentsLead = OverRuns (λ kind count tree. All (λ o. Leads tree.objects o.number) tree.objects)
+ParentsLead = OverRuns (λ kind count tree. AllByRecursion (λ o. Leads tree.objects o.number) tree.objects)
 
 -- no two objects of a folder have alike names
 abbrev pub NamesApart : Type 0
@@ -49,7 +49,7 @@ abbrev pub NumbersOnce : Type 0
 NumbersOnce =
     (kind : Kind) (count : ℕ) (image : Option Tree) (calls : List Brought) (before between after : List Event) (e f : Event) (m n : ℕ)
     → history kind count (idle image) calls ≡ before ++ e ∷ (between ++ f ∷ after)
-    → e.answer ≡ made m → All (λ x. Formats x → ⊥) between → f.answer ≡ made n → m < n
+    → e.answer ≡ made m → AllByRecursion (λ x. Formats x → ⊥) between → f.answer ≡ made n → m < n
 
 -- the answer that gives a lease
 abbrev pub is_leased : Answer → Bool

@@ -1,6 +1,6 @@
 -- Sound trees: those that a device can hold the image of.
 use Rattle.std.specs.Prelude.{◌≡◌, ℕ, ◌^◌, ◌<◌, ◌≤◌, Bool, true, false, ◌&&◌, ◌⊎◌, List, [], ◌∷◌, is_some, Some, None}
-use Rattle.std.specs.List.{AllByRecursion as All}
+use Rattle.std.specs.List.{AllByRecursion}
 use Rattle.kinds.specs.Kinds.{Kind, TotalOrder, AlikeHash, Bounded}
 use Rattle.model.specs.Trees.{Object, Tree, numbered, folder_numbered, child_of, is_alike, find, climbed, root}
 use Rattle.model.specs.Names.{is_bad_name}
@@ -30,7 +30,7 @@ clash kind o p = child_of p.parent o && is_alike kind p.name o.name
 -- no two objects of a folder have alike names
 abbrev pub Apart : Kind → List Object → Type 0
 Apart kind [] = Unit {0}
-Apart kind (o ∷ os) = All (λ p. clash kind p o ≡ false) os × Apart kind os
+Apart kind (o ∷ os) = AllByRecursion (λ p. clash kind p o ≡ false) os × Apart kind os
 
 -- an object with a good name in a folder
 pub record Placed (kind : Kind) (os : List Object) (o : Object) : Type 0 where
@@ -42,12 +42,12 @@ pub record Sound (kind : Kind) (count : ℕ) (tree : Tree) : Type 0 where
   -- numbers run from 1 to below the next, which has four bytes
   pub next : tree.next < 2 ^ 32
   pub falling : Falling tree.next tree.objects
-  pub positive : All (λ o. 1 ≤ o.number) tree.objects
+  pub positive : AllByRecursion (λ o. 1 ≤ o.number) tree.objects
   -- object 1 is the root, and every other stands in a folder
   pub rooted : find (numbered 1) tree.objects ≡ Some root
-  pub placed : All (λ o. (o ≡ root) ⊎ Placed kind tree.objects o) tree.objects
-  pub kinds : All (λ o. is_bad_kind o.kind ≡ false) tree.objects
-  pub leads : All (λ o. Leads tree.objects o.number) tree.objects
+  pub placed : AllByRecursion (λ o. (o ≡ root) ⊎ Placed kind tree.objects o) tree.objects
+  pub kinds : AllByRecursion (λ o. is_bad_kind o.kind ≡ false) tree.objects
+  pub leads : AllByRecursion (λ o. Leads tree.objects o.number) tree.objects
   pub apart : Apart kind tree.objects
   -- its image fits onto the device
   pub held : HeldTree kind tree
