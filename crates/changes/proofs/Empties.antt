@@ -1,5 +1,5 @@
 -- An index of no records.
-use Rattle.std.proofs.Common.{◌≡◌, ℕ, ◌/◌, ◌^◌, ◌<◌, ◌≤◌, true, List, [], ◌∷◌, length, get_or, set, replicate, sym, refl, ap, ◌∙◌, subst, arith, length-set}
+use Rattle.std.proofs.Common.{◌≡◌, ℕ, ◌/◌, ◌^◌, ◌<◌, true, List, [], ◌∷◌, length, get_or, set, replicate, sym, refl, ap, ◌∙◌, subst, arith, length-set}
 use Rattle.std.proofs.lemmas.List.{ext_get_or, length-replicate, get_or-replicate, get_or-set_same, get_or-set_other}
 use Rattle.std.proofs.lemmas.Bool.{le-leb}
 use Rattle.kinds.specs.Kinds.{Kind}
@@ -9,12 +9,12 @@ use Rattle.header.specs.Headers.{Lawful, RunAt, Encodes, deepest}
 use Rattle.header.proofs.Blocks.{slots_read, deep_read}
 use Rattle.header.proofs.RunsLaws.{runs_one, rooms_one, small_each, runs_each}
 use Rattle.shape.specs.Shapes.{under, is_light}
-use Rattle.shape.specs.Buckets.{leaves, first_slot}
+use Rattle.shape.specs.Buckets.{leaves}
 use Rattle.shape.specs.Keyed.{by_key}
 use Rattle.shape.proofs.Loads.{load_none}
 use Rattle.shape.proofs.Rooms.{room_takes}
-use Rattle.shape.proofs.Leaves.{leaf, leaves_light}
-use Rattle.index.specs.Stored.{Blocks, block, slots, rooms, room_at, bucket_for, bucket_at, prefix_at, Stored, pointers, home}
+use Rattle.shape.proofs.Leaves.{leaves_light}
+use Rattle.index.specs.Stored.{Blocks, block, slots, rooms, room_at, bucket_for, bucket_at, prefix_at, Stored, pointers}
 use Rattle.index.proofs.Reading.{length-slots, get_or-slots, length-rooms, get_or-rooms, slot_small}
 use Rattle.changes.specs.Creating.{Creatable, Created}
 

@@ -1,14 +1,14 @@
 -- The header block after a plan.
-use Rattle.std.proofs.Common.{◌≡◌, ℕ, zero, suc, ◌+◌, ◌*◌, ◌/◌, ◌^◌, ◌<◌, ◌≤◌, true, false, List, [], ◌∷◌, ◌++◌, length, get_or, sym, refl, ap, ◌∙◌, subst, ⊎_elim, arith, length-append}
+use Rattle.std.proofs.Common.{◌≡◌, ℕ, zero, suc, ◌+◌, ◌*◌, ◌/◌, ◌^◌, ◌<◌, ◌≤◌, true, false, List, ◌∷◌, length, get_or, sym, refl, ap, ◌∙◌, subst, ⊎_elim, arith, length-append}
 use Rattle.std.proofs.lemmas.List.{ext_get_or}
 use Rattle.std.proofs.lemmas.Bool.{cases_eq, cases_Bool}
 use Rattle.kinds.specs.Kinds.{Kind}
 use Rattle.header.specs.Headers.{Lawful, Encodes, deepest}
 use Rattle.shape.specs.Shapes.{Measure, is_light}
-use Rattle.shape.specs.Buckets.{Leaf, room, leaves}
+use Rattle.shape.specs.Buckets.{room, leaves}
 use Rattle.shape.specs.Keyed.{by_key}
 use Rattle.shape.proofs.Rooms.{room_zero, room_takes, room_shared}
-use Rattle.shape.proofs.Leaves.{leaf, place_of, leaf_at, place_is, first_within, leaves_heavy}
+use Rattle.shape.proofs.Leaves.{leaf, leaf_at, place_is, first_within, leaves_heavy}
 use Rattle.index.specs.Stored.{Blocks, block, slots, rooms, room_at, Stored}
 use Rattle.index.proofs.Reading.{length-slots, length-rooms, get_or-rooms}
 use Rattle.plans.specs.declared.plan.Plan.{Plan}

@@ -1,26 +1,23 @@
 -- Slots that name the buckets of the new records: they are a lawful header's.
-use Rattle.std.proofs.Common.{◌≡◌, ℕ, zero, suc, ◌+◌, ◌-◌, ◌*◌, ◌/◌, ◌^◌, ◌<◌, ◌≤◌, Bool, true, false, cond, eqb, List, [], ◌∷◌, ◌++◌, map, length, get_or, sym, refl, ap, ◌∙◌, subst, ⊎_elim, add-mul, arith}
-use Rattle.std.specs.List.{AllByRecursion as All}
+use Rattle.std.proofs.Common.{◌≡◌, ℕ, zero, suc, ◌+◌, ◌*◌, ◌/◌, ◌^◌, ◌<◌, ◌≤◌, true, cond, eqb, List, [], ◌∷◌, length, get_or, sym, refl, ap, ◌∙◌, subst, ⊎_elim, add-mul, arith}
 use Rattle.std.proofs.ByRecursion.{All-get_or}
 use Rattle.std.proofs.lemmas.List.{get_or-map, length-map, ext_get_or}
 use Rattle.std.proofs.lemmas.Bool.{cases_eq, cases_lt, both_ways, eq-eqb, ne_eqb, eqb-true}
 use Rattle.std.proofs.lemmas.Nat.{pow_pos}
-use Rattle.kinds.specs.Kinds.{Kind, Bounded}
+use Rattle.kinds.specs.Kinds.{Kind}
 use Rattle.buckets.specs.Blocks.{bucket_bytes}
 use Rattle.header.specs.Headers.{Lawful, RunAt, Encodes, deepest, together}
 use Rattle.header.proofs.Blocks.{slots_read, deep_read}
-use Rattle.shape.specs.Shapes.{under, is_light}
+use Rattle.shape.specs.Shapes.{is_light}
 use Rattle.shape.specs.Buckets.{Leaf, room, leaves, first_slot}
 use Rattle.shape.specs.Keyed.{by_key}
-use Rattle.shape.proofs.Rooms.{prefix_up, room_le, room_light, room_skip, room_above, bucket-off}
-use Rattle.shape.proofs.Leaves.{leaf, place_of, leaf_at, place_is, first_is, first_within, length-leaves}
+use Rattle.shape.proofs.Rooms.{prefix_up, room_le, room_light, room_skip, bucket-off}
+use Rattle.shape.proofs.Leaves.{leaf, place_of, leaf_at, place_is, first_within, length-leaves}
 use Rattle.index.specs.Stored.{Blocks, block, slots, rooms, room_at, bucket_for, bucket_at, prefix_at, Stored, pointers, home, times}
 use Rattle.index.proofs.Reading.{length-slots, get_or-slots, length-rooms, get_or-rooms, slot_small}
-use Rattle.layout.specs.Laid.{leaf_block, LaidOut}
 use Rattle.layout.proofs.Splits.{slot_prefix}
 use Rattle.plans.specs.declared.plan.Plan.{Plan}
 use Rattle.plans.specs.Planned.{Planned, Spare}
-use Rattle.plans.proofs.Counts.{few_records}
 use Rattle.plans.proofs.Merges.{run_pointer}
 use Rattle.changes.specs.Relaying.{Relaid, Lays}
 use Rattle.changes.proofs.Relays.{leaves_within}

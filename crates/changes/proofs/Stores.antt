@@ -1,5 +1,5 @@
 -- A plan that was written: the blocks store the new records.
-use Rattle.std.proofs.Common.{◌≡◌, ℕ, zero, suc, ◌+◌, ◌-◌, ◌*◌, ◌/◌, ◌^◌, ◌<◌, ◌≤◌, Bool, true, false, cond, eqb, List, [], ◌∷◌, ◌++◌, map, length, get_or, take, set, sym, refl, ap, ◌∙◌, subst, ⊎_elim, add-mul, arith, length-set}
+use Rattle.std.proofs.Common.{◌≡◌, ℕ, zero, suc, ◌+◌, ◌-◌, ◌*◌, ◌/◌, ◌^◌, ◌<◌, ◌≤◌, cond, eqb, List, [], ◌∷◌, ◌++◌, map, length, get_or, take, set, sym, refl, ap, ◌∙◌, subst, ⊎_elim, add-mul, arith, length-set}
 use Rattle.std.specs.List.{AllByRecursion as All}
 use Rattle.std.proofs.lemmas.Nat.{pow_pos}
 use Rattle.std.proofs.ByRecursion.{All-get_or}
@@ -7,21 +7,19 @@ use Rattle.std.proofs.lemmas.List.{get_or-set_same, get_or-set_other, get_or-map
 use Rattle.std.proofs.lemmas.Bool.{cases_eq, eq-eqb}
 use Rattle.kinds.specs.Kinds.{Kind}
 use Rattle.header.specs.Headers.{RunAt, Encodes, deepest}
-use Rattle.shape.specs.Shapes.{under}
 use Rattle.shape.specs.Buckets.{Leaf, leaves, first_slot}
 use Rattle.shape.specs.Keyed.{by_key}
-use Rattle.shape.proofs.Leaves.{leaf, place_of, first_within, Around, around}
+use Rattle.shape.proofs.Leaves.{leaf, place_of, first_within, around}
 use Rattle.index.specs.Stored.{Blocks, block, slots, rooms, room_at, bucket_for, Stored, pointers, home, times}
 use Rattle.index.proofs.Reading.{slot_small}
 use Rattle.layout.specs.Laid.{blocks_of, leaf_block}
 use Rattle.plans.specs.declared.plan.Plan.{Plan}
 use Rattle.plans.specs.Planned.{Planned, Spare, Changed, numbers_of}
 use Rattle.plans.proofs.Merges.{times-append}
-use Rattle.changes.specs.Relaying.{Relaid, Lays}
 use Rattle.changes.specs.Making.{Headed, written}
 use Rattle.changes.proofs.Relays.{leaves_within}
 use Rattle.changes.proofs.Writes.{length-written, written_at, written_off}
-use Rattle.changes.proofs.Naming.{times_at, pointer_home, lays, apart, room_on, room_off, bucket_same, pointer-on, elsewhere, place-small, leaf-of, runs-new}
+use Rattle.changes.proofs.Naming.{times_at, pointer_home, lays, apart, bucket_same, pointer-on, elsewhere, place-small, leaf-of, runs-new}
 
 -- blocks after a header and some buckets were written
 pub record Wrote (before after : Blocks) (head : ℕ) (header ns : List ℕ) (bs : List (List ℕ)) : Type 0 where

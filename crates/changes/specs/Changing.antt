@@ -1,12 +1,12 @@
 -- What putting and removing come to.
-use Rattle.std.specs.Prelude.{◌≡◌, ℕ, ◌+◌, ◌<◌, ◌≤◌, true, false, List, [], ◌∷◌, length, take, Some, None, Ok, Err, Option, Result}
+use Rattle.std.specs.Prelude.{◌≡◌, ℕ, ◌≤◌, List, [], length, take, Some, None, Ok, Err, Option, Result}
 use Rattle.kinds.specs.Kinds.{Kind}
 use Rattle.records.specs.Ordered.{put, without, alike}
 use Rattle.shape.specs.Shapes.{Held}
 use Rattle.shape.specs.Keyed.{by_key}
 use Rattle.index.specs.declared.fault.Fault.{Fault}
 use Rattle.index.specs.declared.fault.Fault.TheVariants.{BadRecord, Full, NoRoom, Broken}
-use Rattle.index.specs.Stored.{Blocks, block, Stored, home}
+use Rattle.index.specs.Stored.{Blocks}
 use Rattle.plans.specs.Planned.{Changed, numbers_of}
 use Rattle.changes.specs.declared.change.Change.{Change}
 

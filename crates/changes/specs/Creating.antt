@@ -1,7 +1,6 @@
 -- An empty index is made.
-use Rattle.std.specs.Prelude.{◌≡◌, ℕ, ◌<◌, ◌≤◌, true, false, List, [], ◌∷◌, length, is_ok, Decides, Result, ◌≢◌}
+use Rattle.std.specs.Prelude.{◌≡◌, ℕ, ◌<◌, ◌≤◌, [], ◌∷◌, length, ◌≢◌}
 use Rattle.kinds.specs.Kinds.{Kind}
-use Rattle.index.specs.declared.fault.Fault.{Fault}
 use Rattle.index.specs.Stored.{Blocks, block, Stored, home}
 
 -- two blocks of the device that are not the same, and two writes

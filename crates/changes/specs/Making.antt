@@ -1,13 +1,12 @@
 -- What it takes to make a planned change, and what it comes to.
-use Rattle.std.specs.Prelude.{◌≡◌, ℕ, ◌+◌, ◌-◌, ◌/◌, ◌^◌, ◌<◌, ◌≤◌, true, false, List, [], ◌∷◌, map, length, take, is_ok, Err, Decides, Result, slice_index, slice_set}
+use Rattle.std.specs.Prelude.{◌≡◌, ℕ, ◌+◌, ◌-◌, ◌/◌, ◌^◌, ◌<◌, ◌≤◌, true, false, List, [], ◌∷◌, length, take, is_ok, Err, Decides, Result, slice_index, slice_set}
 use Rattle.kinds.specs.Kinds.{Kind}
 use Rattle.header.specs.Headers.{Encodes, deepest}
 use Rattle.index.specs.declared.fault.Fault.{Fault}
 use Rattle.index.specs.declared.fault.Fault.TheVariants.{NoRoom}
-use Rattle.index.specs.Stored.{Blocks, block, slots, rooms, Stored}
-use Rattle.layout.specs.Laid.{blocks_of}
+use Rattle.index.specs.Stored.{Blocks, slots, rooms}
 use Rattle.plans.specs.declared.plan.Plan.{Plan}
-use Rattle.plans.specs.Planned.{Planned, Spare, Changed, numbers_of}
+use Rattle.plans.specs.Planned.{Changed, numbers_of}
 use Rattle.changes.specs.Relaying.{Relaid}
 
 -- blocks after each of some is written to its number

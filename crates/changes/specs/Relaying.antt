@@ -1,5 +1,5 @@
 -- Pointers and rooms of slots, while the buckets under a prefix are named anew.
-use Rattle.std.specs.Prelude.{◌≡◌, ℕ, ◌+◌, ◌-◌, ◌*◌, ◌/◌, ◌^◌, ◌<◌, ◌≤◌, Bool, cond, ◌&&◌, List, ◌∷◌, map, length, get_or, ◌≢◌, nat_le, nat_lt, slice_index}
+use Rattle.std.specs.Prelude.{◌≡◌, ℕ, ◌+◌, ◌-◌, ◌*◌, ◌/◌, ◌^◌, ◌<◌, ◌≤◌, Bool, cond, ◌&&◌, List, map, length, get_or, ◌≢◌, nat_le, nat_lt, slice_index}
 use Rattle.kinds.specs.Kinds.{Kind}
 use Rattle.shape.specs.Buckets.{Leaf, leaves}
 use Rattle.shape.specs.Keyed.{by_key}

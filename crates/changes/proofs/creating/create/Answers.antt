@@ -1,4 +1,4 @@
-use Rattle.std.proofs.Common.{◌≡◌, ℕ, ◌<◌, ◌≤◌, true, false, cond, List, [], length, set, replicate, is_ok, sym, refl, ap, ◌∙◌, subst, arith, length-set}
+use Rattle.std.proofs.Common.{◌≡◌, ℕ, ◌<◌, true, cond, length, set, replicate, is_ok, refl, ap, ◌∙◌, subst, arith, length-set}
 use Rattle.std.proofs.lemmas.Bool.{both_ways, cond-true, and_from, lt-ltb, eq-eqb}
 use Rattle.header.specs.Headers.{Encodes, deepest}
 use Rattle.changes.specs.Creating.{Creatable}

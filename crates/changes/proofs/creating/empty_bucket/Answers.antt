@@ -1,4 +1,4 @@
-use Rattle.std.proofs.Common.{◌≡◌, ℕ, true, cond, leb, List, [], Some, None, Option, sym, refl, ap, ◌∙◌, subst, arith, MatchOption}
+use Rattle.std.proofs.Common.{◌≡◌, ℕ, cond, leb, List, [], Some, None, Option, sym, refl, subst, MatchOption}
 use Rattle.records.specs.Items.{records_in}
 use Rattle.records.specs.Records.{load}
 use Rattle.buckets.specs.Blocks.{bucket_bytes}

@@ -1,4 +1,4 @@
-use Rattle.std.proofs.Common.{◌≡◌, length, sym, ◌∙◌, subst}
+use Rattle.std.proofs.Common.{length, sym, ◌∙◌, subst}
 use Rattle.header.specs.Headers.{Encodes, deepest}
 use Rattle.index.specs.Stored.{block, slots, rooms}
 use Rattle.changes.proofs.Heads.{headed-same}

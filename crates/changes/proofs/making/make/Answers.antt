@@ -1,22 +1,23 @@
-use Rattle.std.proofs.Common.{◌≡◌, ℕ, ◌+◌, ◌<◌, ◌≤◌, true, false, cond, not, List, [], ◌∷◌, length, get_or, set, is_ok, sym, refl, ap, ◌∙◌, subst, arith}
+use Rattle.std.proofs.Common.{◌≡◌, ℕ, ◌<◌, true, false, cond, eqb, ◌∷◌, length, set, is_ok, sym, refl, ap, ◌∙◌, arith}
+use Rattle.std.specs.Cmp.Lexicographic.{pointwise}
 use Rattle.std.proofs.lemmas.Slice.Eq.{slice_eq-Decides}
 use Rattle.std.proofs.lemmas.Bool.{both_ways, cond-true, and_from, lt-ltb, eq-eqb, not-false}
 use Rattle.layout.specs.Laid.{blocks_of}
-use Rattle.changes.specs.Making.{Ready, written}
+use Rattle.changes.specs.Making.{written}
 use Rattle.changes.proofs.Writes.{length-written}
 use Rattle.changes.proofs.Stores.{there, wrote-both, wrote-buckets, changed}
 use Rattle.changes.proofs.making.make.Goals as goal
 use Rattle.std.proofs.lemmas.Bool.Decides.{Decides-eqb}
 
-pub returns-then-not-is-ready : goal.returns-then-not-is-ready
-returns-then-not-is-ready g c =
+pub returns-then-not-is_ready : goal.returns-then-not-is_ready
+returns-then-not-is_ready g c =
     let d = c.args.device.now in
     record {
       makes = λ kind old new st pl sp. record {
         served = (
           λ t. absurd (both_ways false refl t),
           λ a.
-              absurd (both_ways _ c.if-not-is-ready.true (c.is-ready.ensures.1 (record {
+              absurd (both_ways _ c.if-not-is_ready.true (c.is_ready.ensures.1 (record {
                 enough = a.0;
                 writes = a.1;
                 header = st.inside;
@@ -39,9 +40,9 @@ returns-then-ne g c =
     let spare = c.args.spare.now in
     let head = c.args.head in
     let header = c.in-Some.header in
-    let ready = c.is-ready.ensures.0 c.if-not-is-ready.false in
-    let mid = c.write-buckets.new.device in
-    let b = c.write-buckets.ensures in
+    let ready = c.is_ready.ensures.0 c.if-not-is_ready.false in
+    let mid = c.write_buckets.new.device in
+    let b = c.write_buckets.ensures in
     let before = g.D.Device.contents d in
     let ns = plan.number ∷ spare in
     let low : c.from.result < length (g.D.Device.contents mid) = omega (arith, c.from.ensures, ready.header, ap length b.sets, length-written before ns (blocks_of plan.laid)) in
@@ -71,13 +72,13 @@ returns-else-ne g c =
     let spare = c.args.spare.now in
     let head = c.args.head in
     let header = c.in-Some.header in
-    let ready = c.is-ready.ensures.0 c.if-not-is-ready.false in
-    let mid = c.write-buckets.new.device in
-    let b = c.write-buckets.ensures in
+    let ready = c.is_ready.ensures.0 c.if-not-is_ready.false in
+    let mid = c.write_buckets.new.device in
+    let b = c.write_buckets.ensures in
     let before = g.D.Device.contents d in
-    let x = c.ne.ensures.0 in
-    let equal : x ≡ true = not-false x (sym c.ne.ensures.2 ∙ c.if-ne.false) in
-    let same : header ≡ plan.header = (slice_eq-Decides Decides-eqb header plan.header x c.ne.ensures.1).0 equal in
+    let x = pointwise eqb header plan.header in
+    let equal : x ≡ true = not-false x (sym c.ne.ensures ∙ c.if-ne.false) in
+    let same : header ≡ plan.header = (slice_eq-Decides Decides-eqb header plan.header x refl).0 equal in
     record {
       makes = λ kind old new st pl sp.
           let hd = c.in-Some.ensures kind before head old new st pl sp ready.enough in

@@ -1,4 +1,4 @@
-use Rattle.std.proofs.Common.{◌≡◌, ℕ, ◌+◌, ◌<◌, ◌≤◌, true, cond, ltb, leb, List, [], ◌∷◌, length, get_or, drop, set, is_ok, sym, ap, ◌∙◌, subst, arith, length-set}
+use Rattle.std.proofs.Common.{◌≡◌, ℕ, ◌+◌, ◌<◌, true, cond, ltb, leb, [], ◌∷◌, length, get_or, drop, set, is_ok, sym, ap, ◌∙◌, arith, length-set}
 use Rattle.std.proofs.lemmas.Bool.{cond-true, and_from, lt-ltb, eq-eqb}
 use Rattle.layout.specs.Laid.{blocks_of}
 use Rattle.plans.proofs.Choosing.{some_told}
@@ -19,7 +19,7 @@ loop-i-preserved g c =
     let long = c.len-i-end.ensures in
     let l : i < plan.laid.len = omega (arith, c.loop-i-test.true, long.value) in
     let b : block ≡ get_or bs i [] = (some_told (ltb i plan.laid.len) block (get_or bs i []) c.in-Some.ensures).1 in
-    let n : c.in-Some-number-at.number ≡ get_or ns i 0 = (some_told (leb i (length spare)) c.in-Some-number-at.number (get_or ns i 0) c.in-Some-number-at.ensures).1 in
+    let n : c.in-Some-number_at.number ≡ get_or ns i 0 = (some_told (leb i (length spare)) c.in-Some-number_at.number (get_or ns i 0) c.in-Some-number_at.ensures).1 in
     let m : c.from.result ≡ get_or ns i 0 = c.from.ensures ∙ n in
     let low : c.from.result < length d = omega (arith, m, c.requires.1.1 i l, inv.1) in
     let size : length block ≡ 512 = omega arith in

@@ -1,4 +1,4 @@
-use Rattle.std.proofs.Common.{◌≡◌, ℕ, ◌+◌, ◌<◌, ◌≤◌, List, ◌∷◌, length, drop}
+use Rattle.std.proofs.Common.{◌≡◌, ◌+◌, ◌≤◌, ◌∷◌, length, drop}
 use Rattle.layout.specs.Laid.{blocks_of}
 use Rattle.changes.specs.Making.{written}
 use Rattle.changes.proofs.making.write_buckets.Given as goal

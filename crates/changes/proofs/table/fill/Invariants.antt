@@ -1,4 +1,4 @@
-use Rattle.std.proofs.Common.{◌≡◌, ℕ, length, get_or}
+use Rattle.std.proofs.Common.{◌≡◌, ℕ, get_or}
 use Rattle.changes.specs.Relaying.{filled_at}
 use Rattle.changes.proofs.table.fill.Given as goal
 

@@ -1,15 +1,15 @@
-use Rattle.std.proofs.Common.{◌≡◌, ℕ, ◌+◌, ◌*◌, ◌^◌, ◌<◌, ◌≤◌, true, false, ltb, leb, List, [], ◌∷◌, map, length, get_or, sym, refl, ap, ◌∙◌, subst, arith}
+use Rattle.std.proofs.Common.{◌≡◌, ℕ, ◌+◌, ◌*◌, ◌^◌, ◌<◌, ◌≤◌, true, ltb, leb, List, [], ◌∷◌, length, get_or, sym, refl, ap, ◌∙◌, arith}
 use Rattle.std.proofs.ByRecursion.{All-get_or}
 use Rattle.std.proofs.lemmas.List.{get_or-map}
 use Rattle.std.proofs.lemmas.Bool.{both_ways}
 use Rattle.kinds.specs.Kinds.{Kind}
-use Rattle.shape.specs.Buckets.{Leaf, leaves, first_slot}
+use Rattle.shape.specs.Buckets.{leaves, first_slot}
 use Rattle.shape.specs.Keyed.{by_key}
 use Rattle.shape.proofs.Leaves.{leaf, place_is}
 use Rattle.layout.specs.Laid.{blocks_of, leaf_block}
 use Rattle.plans.specs.declared.plan.Plan.{Plan}
 use Rattle.plans.proofs.Choosing.{some_told}
-use Rattle.changes.specs.Relaying.{filled_at, first_in, room_in, is_run, Named, Unnamed, Lays}
+use Rattle.changes.specs.Relaying.{filled_at, first_in, room_in, is_run, Lays}
 use Rattle.changes.proofs.Relays.{leaves_within, leaf_room, leaf_first, leaf-run, named_more, unnamed_more}
 use Rattle.changes.proofs.table.relay.Goals as goal
 
@@ -53,24 +53,24 @@ loop-i-preserved c = λ kind new k p y.
     let block = c.in-Some.block.now in
     let l : i < plan.laid.len = omega (arith, c.loop-i-test.true, c.len-i-end.ensures.value) in
     let b = (some_told (ltb i plan.laid.len) block (get_or (blocks_of plan.laid) i []) c.in-Some.ensures).1 in
-    let n = (some_told (leb i (length spare)) c.in-Some-number-at.number (get_or ns i 0) c.in-Some-number-at.ensures).1 in
-    let t = c.if-not-fill-bucket.false in
-    let slots = λ (s : ℕ). c.fill-bucket.ensures.slots t s ∙ filled_is kind new k p plan spare y i l block b c.in-Some-number-at.number c.loop-i.slots s in
-    let rooms = λ (s : ℕ). c.fill-bucket.ensures.rooms t s ∙ filled_is kind new k p plan spare y i l block b (room_in block) c.loop-i.rooms s
+    let n = (some_told (leb i (length spare)) c.in-Some-number_at.number (get_or ns i 0) c.in-Some-number_at.ensures).1 in
+    let t = c.if-not-fill_bucket.false in
+    let slots = λ (s : ℕ). c.fill_bucket.ensures.slots t s ∙ filled_is kind new k p plan spare y i l block b c.in-Some-number_at.number c.loop-i.slots s in
+    let rooms = λ (s : ℕ). c.fill_bucket.ensures.rooms t s ∙ filled_is kind new k p plan spare y i l block b (room_in block) c.loop-i.rooms s
     ∙ ap (λ v. filled_at (first_slot (get_or (leaves (by_key kind) k p new) i (leaf 0 0))) (first_slot (get_or (leaves (by_key kind) k p new) i (leaf 0 0)) + 2 ^ (get_or (leaves (by_key kind) k p new) i (leaf 0 0)).room) v c.loop-i.rooms s) (room_is kind new k p plan spare y i l block b) in
     let inv = c.loop-i.invariant kind new k p y in (
-      named_more kind new k p i ns c.args.slots.now c.args.rooms.now c.loop-i.slots c.loop-i.rooms c.fill-bucket.new.slots c.fill-bucket.new.rooms (inside kind new k p plan spare y i l) c.in-Some-number-at.number n slots rooms inv.0,
-      unnamed_more kind new k p i ns c.args.slots.now c.args.rooms.now c.loop-i.slots c.loop-i.rooms c.fill-bucket.new.slots c.fill-bucket.new.rooms (inside kind new k p plan spare y i l) c.in-Some-number-at.number n slots rooms inv.1,
+      named_more kind new k p i ns c.args.slots.now c.args.rooms.now c.loop-i.slots c.loop-i.rooms c.fill_bucket.new.slots c.fill_bucket.new.rooms (inside kind new k p plan spare y i l) c.in-Some-number_at.number n slots rooms inv.0,
+      unnamed_more kind new k p i ns c.args.slots.now c.args.rooms.now c.loop-i.slots c.loop-i.rooms c.fill_bucket.new.slots c.fill_bucket.new.rooms (inside kind new k p plan spare y i l) c.in-Some-number_at.number n slots rooms inv.1,
     )
 
-pub returns-then-not-fill-bucket : goal.returns-then-not-fill-bucket
-returns-then-not-fill-bucket c = λ kind new k p y.
+pub returns-then-not-fill_bucket : goal.returns-then-not-fill_bucket
+returns-then-not-fill_bucket c = λ kind new k p y.
     let plan = c.args.plan.now in
     let i = c.loop-i.i in
     let block = c.in-Some.block.now in
     let l : i < plan.laid.len = omega (arith, c.loop-i-test.true, c.len-i-end.ensures.value) in
     let b = (some_told (ltb i plan.laid.len) block (get_or (blocks_of plan.laid) i []) c.in-Some.ensures).1 in
-    absurd (both_ways _ (sym c.fill-bucket.ensures.run ∙ c.if-not-fill-bucket.true) (run_is kind new k p plan c.args.spare.now y i l block b))
+    absurd (both_ways _ (sym c.fill_bucket.ensures.run ∙ c.if-not-fill_bucket.true) (run_is kind new k p plan c.args.spare.now y i l block b))
 
 pub returns : goal.returns
 returns c = λ kind new k p y.
