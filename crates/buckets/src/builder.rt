@@ -1,4 +1,4 @@
-ghost use Rattle.std.specs.Prelude.{◌≡◌, ◌+◌, ◌<◌, ◌≤◌, leb, length, replicate, IfSome, if◌then◌else◌, Some, None, nat_le};
+ghost use Rattle.std.specs.Prelude.{◌≡◌, ◌+◌, ◌<◌, ◌≤◌, length, replicate, IfSome, if◌then◌else◌, Some, None, nat_le};
 ghost use Rattle.records.specs.Items.{records_in};
 ghost use Rattle.records.specs.Records.{load};
 ghost use Rattle.buckets.specs.Blocks.{heading, bucket_bytes};
@@ -73,7 +73,7 @@ fn lay_records<S: Source>(source: &S) -> [u8; 512]
 
 // The bucket block of a source's records, unless they are too heavy.
 pub fn build<S: Source>(prefix: Prefix, source: &S) -> Option<[u8; 512]>
-    ensures bytes { result ≡ (if leb (load (S.Source.records source.now)) 504 then Some (bucket_bytes prefix (S.Source.records source.now)) else None) }
+    ensures bytes { result ≡ (if nat_le (load (S.Source.records source.now)) 504 then Some (bucket_bytes prefix (S.Source.records source.now)) else None) }
     ensures back { IfSome result (λ block. records_in block ≡ S.Source.records source.now) }
 {
     if !is_light(source) {

@@ -23,7 +23,7 @@ fn is_rebuilt(prefix: Prefix, block: &[u8]) -> bool
 
 // Whether record n is a record of the kind under the prefix, and after the one before it.
 fn fits_at<K: KeyKind>(prefix: Prefix, block: &[u8], n: usize) -> bool
-    requires { (n < length (records_in block.now)) × ((0 < n → is_record (slice_index_or (records_in block.now) (n - 1) []) ≡ true)) }
+    requires { (n < length (records_in block.now)) × (0 < n → is_record (slice_index_or (records_in block.now) (n - 1) []) ≡ true) }
     ensures { Decides result (FitsAt K.KeyKind.kind prefix (records_in block.now) n) }
 {
     let Some(key) = bucket_key(block, n) else {

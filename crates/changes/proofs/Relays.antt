@@ -1,6 +1,6 @@
 -- Naming buckets in their slots, one after another.
 use Rattle.std.proofs.Common.{◌≡◌, ℕ, zero, suc, ◌+◌, ◌*◌, ◌/◌, ◌%◌, ◌^◌, ◌<◌, ◌≤◌, true, false, cond, ◌&&◌, ltb, leb, List, length, get_or, set, sym, refl, ap, ◌∙◌, subst, ⊎_elim, mul_assoc, mul_comm, add-mul, add-one, arith}
-use Rattle.std.specs.List.{AllByRecursion as All}
+use Rattle.std.specs.List.{AllByRecursion}
 use Rattle.std.proofs.lemmas.Nat.{pow-add, pow_pos, mul-le, div-add-mod', mod_below, div_below, le-div}
 use Rattle.std.proofs.ByRecursion.{All-append, All-weaker}
 use Rattle.std.proofs.lemmas.List.{get_or-set_same, get_or-set_other}
@@ -65,13 +65,13 @@ module _ {X : Type 0} (m : Measure X) (rs : List X) where
   abbrev Within : ℕ → ℕ → Leaf → Type 0
   Within k p x = (x.room ≤ k) × ((x.prefix + 1) * 2 ^ x.room ≤ (p + 1) * 2 ^ k)
 
-  pub leaves_within : (k p : ℕ) → All (Within k p) (leaves m k p rs)
-  leaves_within zero p = subst (All (Within zero p)) (sym (leaves_zero m p rs)) ((omega arith, omega arith), tt)
+  pub leaves_within : (k p : ℕ) → AllByRecursion (Within k p) (leaves m k p rs)
+  leaves_within zero p = subst (AllByRecursion (Within zero p)) (sym (leaves_zero m p rs)) ((omega arith, omega arith), tt)
   leaves_within (suc k) p = ⊎_elim
-      (λ (t : is_light m (suc k) p rs ≡ true). subst (All (Within (suc k) p)) (sym (leaves_light m (suc k) p rs t)) ((omega arith, omega arith), tt))
+      (λ (t : is_light m (suc k) p rs ≡ true). subst (AllByRecursion (Within (suc k) p)) (sym (leaves_light m (suc k) p rs t)) ((omega arith, omega arith), tt))
       (λ (f : is_light m (suc k) p rs ≡ false).
       let d = double k p in
-      subst (All (Within (suc k) p)) (sym (leaves_heavy m k p rs f))
+      subst (AllByRecursion (Within (suc k) p)) (sym (leaves_heavy m k p rs f))
       (All-append (Within (suc k) p) _ _
       (All-weaker (Within k (2 * p)) (Within (suc k) p) (λ x h. (omega (arith, h.0), omega (arith, h.1, d.0))) _ (leaves_within k (2 * p)))
       (All-weaker (Within k (2 * p + 1)) (Within (suc k) p) (λ x h. (omega (arith, h.0), omega (arith, h.1, d.1))) _ (leaves_within k (2 * p + 1)))))

@@ -1,6 +1,6 @@
 -- A plan that was written: the blocks store the new records.
 use Rattle.std.proofs.Common.{◌≡◌, ℕ, zero, suc, ◌+◌, ◌-◌, ◌*◌, ◌/◌, ◌^◌, ◌<◌, ◌≤◌, cond, eqb, List, [], ◌∷◌, ◌++◌, map, length, get_or, take, set, sym, refl, ap, ◌∙◌, subst, ⊎_elim, add-mul, arith, length-set}
-use Rattle.std.specs.List.{AllByRecursion as All}
+use Rattle.std.specs.List.{AllByRecursion}
 use Rattle.std.proofs.lemmas.Nat.{pow_pos}
 use Rattle.std.proofs.ByRecursion.{All-get_or}
 use Rattle.std.proofs.lemmas.List.{get_or-set_same, get_or-set_other, get_or-map, length-map, length-take, get_or-take, map-append, ext_get_or}
@@ -28,11 +28,11 @@ pub record Wrote (before after : Blocks) (head : ℕ) (header ns : List ℕ) (bs
   pub at : (i : ℕ) → i < length bs → block after (get_or ns i 0) ≡ get_or bs i []
   pub off : (b : ℕ) → (b ≡ head → ⊥) → ((i : ℕ) → i < length bs → b ≡ get_or ns i 0 → ⊥) → block after b ≡ block before b
 
-all_left : {X : Type 0} (P : X → Type 0) (xs ys : List X) → All P (xs ++ ys) → All P xs
+all_left : {X : Type 0} (P : X → Type 0) (xs ys : List X) → AllByRecursion P (xs ++ ys) → AllByRecursion P xs
 all_left P [] ys h = tt
 all_left P (x ∷ xs) ys h = (h.0, all_left P xs ys h.1)
 
-all_right : {X : Type 0} (P : X → Type 0) (xs ys : List X) → All P (xs ++ ys) → All P ys
+all_right : {X : Type 0} (P : X → Type 0) (xs ys : List X) → AllByRecursion P (xs ++ ys) → AllByRecursion P ys
 all_right P [] ys h = h
 all_right P (x ∷ xs) ys h = all_right P xs ys h.1
 
@@ -172,11 +172,11 @@ module _ (kind : Kind) (before after : Blocks) (head : ℕ) (old new : List (Lis
       let e : (x.prefix + 1) * 2 ^ x.room ≡ x.prefix * 2 ^ x.room + 2 ^ x.room = add-mul x.prefix 1 (2 ^ x.room) ∙ omega arith in
       omega (arith, h.1, e, pow_pos x.room)
 
-  same_pointers : (xs : List Leaf) → All Small xs → All (λ x. first_slot x / 2 ^ K ≡ p → ⊥) xs → pointers header xs ≡ pointers (block before head) xs
+  same_pointers : (xs : List Leaf) → AllByRecursion Small xs → AllByRecursion (λ x. first_slot x / 2 ^ K ≡ p → ⊥) xs → pointers header xs ≡ pointers (block before head) xs
   same_pointers [] a b = refl
   same_pointers (x ∷ xs) a b = ap (λ n. n ∷ pointers header xs) (off (first_slot x) (first_small x a.0) b.0) ∙ ap (λ ys. get_or (slots (block before head)) (first_slot x) 0 ∷ ys) (same_pointers xs a.1 b.1)
 
-  new_pointers : All Small L → pointers header L ≡ take plan.laid.len ns
+  new_pointers : AllByRecursion Small L → pointers header L ≡ take plan.laid.len ns
   new_pointers sm =
       let ll = (lays kind before head old new plan spare st pl sp enough).long in
       let f = λ (x : Leaf). get_or (slots header) (first_slot x) 0 in
@@ -206,7 +206,7 @@ module _ (kind : Kind) (before after : Blocks) (head : ℕ) (old new : List (Lis
       let z = slot_small plan.slot pl.slot in
       let olds : leaves (by_key kind) 7 0 old ≡ ar.left ++ (leaves (by_key kind) K p old ++ ar.right) = ap (λ n. leaves (by_key kind) 7 n old) (sym z) ∙ ar.old in
       let news : leaves (by_key kind) 7 0 new ≡ ar.left ++ (L ++ ar.right) = ap (λ n. leaves (by_key kind) 7 n new) (sym z) ∙ ar.new in
-      let all = subst (All Small) news (leaves_within (by_key kind) new 7 0) in
+      let all = subst (AllByRecursion Small) news (leaves_within (by_key kind) new 7 0) in
       let sl = all_left Small ar.left (L ++ ar.right) all in
       let sm = all_left Small L ar.right (all_right Small ar.left (L ++ ar.right) all) in
       let sr = all_right Small L ar.right (all_right Small ar.left (L ++ ar.right) all) in

@@ -1,6 +1,6 @@
 -- The blocks that differ, one by one, and the target once they are written.
 use Rattle.std.proofs.Common.{◌≡◌, ℕ, zero, suc, ◌+◌, ◌<◌, ◌≤◌, true, false, cond, List, [], ◌∷◌, ◌++◌, map, length, get_or, take, drop, set, filter, sym, refl, ap, ◌∙◌, ⊎_elim, add-one, arith, length-append}
-use Rattle.std.specs.List.{range_with_len, AllByRecursion as All}
+use Rattle.std.specs.List.{range_with_len, AllByRecursion}
 use Rattle.std.proofs.lemmas.List.FromFn.{filter_of_map_range_with_len_more, length-range_with_len, get_or-range_with_len}
 use Rattle.std.proofs.ByRecursion.{All-get_or, All-from_get_or, all_kept_by}
 use Rattle.std.proofs.lemmas.Slice.Eq.{bytes_eq-Decides}
@@ -14,7 +14,7 @@ differing_more xs ys n =
     let same : (k : ℕ) → map (λ (x : ℕ). x) (range_with_len 0 k) ≡ range_with_len 0 k = λ k. map-id (range_with_len 0 k) in
     sym (ap (filter p) (same (n + 1))) ∙ filter_of_map_range_with_len_more p (λ (x : ℕ). x) 0 n n (omega arith) ∙ ap (λ zs. filter p zs ++ cond (p n) (n ∷ []) []) (same n)
 
-below_all : (n : ℕ) → All (λ (b : ℕ). b < n) (range_with_len 0 n)
+below_all : (n : ℕ) → AllByRecursion (λ (b : ℕ). b < n) (range_with_len 0 n)
 below_all n = All-from_get_or (λ (b : ℕ). b < n) (range_with_len 0 n) 0 (λ i h. let l : i < n = omega (arith, length-range_with_len 0 n) in omega (arith, get_or-range_with_len 0 n i 0 l))
 
 pub differing_below : (xs ys : List (List ℕ)) (n i : ℕ) → i < length (differing xs ys n) → get_or (differing xs ys n) i 0 < n

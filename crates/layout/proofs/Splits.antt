@@ -1,6 +1,6 @@
 -- What one step of a split comes to: a light prefix is a bucket, a heavy one is split into its halves.
 use Rattle.std.proofs.Common.{◌≡◌, ℕ, suc, ◌+◌, ◌-◌, ◌*◌, ◌/◌, ◌^◌, ◌<◌, ◌≤◌, Bool, true, false, cond, eqb, ltb, leb, List, [], ◌∷◌, ◌++◌, map, length, get_or, take, drop, sum_by, Less, sym, refl, ap, ◌∙◌, subst, mul_assoc, mul_comm, add-mul, arith, length-append}
-use Rattle.std.specs.List.{AllByRecursion as All}
+use Rattle.std.specs.List.{AllByRecursion}
 use Rattle.std.proofs.lemmas.Nat.{pow-add, pow_pos, mul-le, div_below}
 use Rattle.std.proofs.lemmas.List.Edits.{length-between, get_or-between}
 use Rattle.std.proofs.ByRecursion.{All-weaker, kept_by_passes}
@@ -133,9 +133,9 @@ module _ (kind : Kind) (ys : List (List ℕ)) where
         let w : from + (middle - from) ≡ middle = omega arith in
         next (omega arith) (subst (λ j. is_record (get_or rs j []) ≡ true) w (whole (middle - from) h)) (subst (λ j. prefix_of k (kind.hash (key_of (get_or rs j []))) ≡ 2 * p) w (subst (λ r. prefix_of k (kind.hash (key_of r)) ≡ 2 * p) (at (middle - from) h) z))
 
-    inside : All (λ r. prefix_of (suc k) (kind.hash (key_of r)) ≡ p) (span from to rs)
+    inside : AllByRecursion (λ r. prefix_of (suc k) (kind.hash (key_of r)) ≡ p) (span from to rs)
     unfolding under
-    inside = subst (All (λ r. prefix_of (suc k) (kind.hash (key_of r)) ≡ p)) (sym e)
+    inside = subst (AllByRecursion (λ r. prefix_of (suc k) (kind.hash (key_of r)) ≡ p)) (sym e)
         (All-weaker (λ r. eqb (prefix_of (suc k) (kind.hash (key_of r))) p ≡ true) (λ r. prefix_of (suc k) (kind.hash (key_of r)) ≡ p) (λ r t. eqb-true _ _ t) _ (kept_by_passes (λ r. eqb (prefix_of (suc k) (kind.hash (key_of r))) p) ys))
 
     half : (q : ℕ) → q / 2 ≡ p → under (by_key kind) k q (span from to rs) ≡ under (by_key kind) k q ys

@@ -1,4 +1,4 @@
-ghost use Rattle.std.specs.Prelude.{◌≡◌, ◌+◌, ltb, [], ◌∷◌, ◌++◌, length, if◌then◌else◌, Some, None, nat_lt, slice_index_or};
+ghost use Rattle.std.specs.Prelude.{◌≡◌, ◌+◌, [], ◌∷◌, ◌++◌, length, if◌then◌else◌, Some, None, nat_lt, slice_index_or};
 ghost use Rattle.std.specs.Option.{option_map};
 ghost use Rattle.layout.specs.Laid.{blocks_of};
 
@@ -39,7 +39,7 @@ impl Buckets {
 
     // Bucket i, where there is one.
     pub fn block(&self, i: usize) -> Option<&[u8; 512]>
-        ensures { option_map (λ x. x.now) result ≡ (if ltb i self.now.len then Some (slice_index_or (blocks_of self.now) i []) else None) }
+        ensures { option_map (λ x. x.now) result ≡ (if nat_lt i self.now.len then Some (slice_index_or (blocks_of self.now) i []) else None) }
     {
         if i < self.len {
             Some(&self.blocks[i])

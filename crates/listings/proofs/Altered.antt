@@ -1,6 +1,6 @@
 -- How the indexes change with the tree.
 use Rattle.std.proofs.Common.{◌≡◌, ℕ, ◌^◌, ◌<◌, ◌≤◌, true, false, not, List, [], ◌∷◌, map, Some, filter, sym, refl, ap, ◌∙◌, subst, arith}
-use Rattle.std.specs.List.{AllByRecursion as All}
+use Rattle.std.specs.List.{AllByRecursion}
 use Rattle.std.proofs.ByRecursion.{All-weaker}
 use Rattle.std.proofs.lemmas.Bool.{eqb-true, eq-eqb, ne_eqb, and_parts}
 use Rattle.words.specs.BigEndian.{bytes32}
@@ -33,7 +33,7 @@ create_puts k t f n kind = record {
 
 module _ (k : Kind) (l : KeepsLaws k) (f : ℕ) (n : List ℕ) (w : k.lawful n ≡ true) where
   -- only one object stands under a name
-  one_stands : (os : List Object) (o : Object) → Children k f os → Apart k os → find (stands_as k f n) os ≡ Some o → All (λ p. stands_as k f n p ≡ true → p.number ≡ o.number) os
+  one_stands : (os : List Object) (o : Object) → Children k f os → Apart k os → find (stands_as k f n) os ≡ Some o → AllByRecursion (λ p. stands_as k f n p ≡ true → p.number ≡ o.number) os
   one_stands [] o c a e = tt
   one_stands (q ∷ os) o c a e =
       by_test (stands_as k f n q)
@@ -41,7 +41,7 @@ module _ (k : Kind) (l : KeepsLaws k) (f : ℕ) (n : List ℕ) (w : k.lawful n �
       ((λ _. ap (λ (p : Object). p.number) same), go t os c.1 a.0))
       (λ t. ((λ u. never _ u t), one_stands os o c.1 a.1 (rw t at e)))
     where
-      go : stands_as k f n q ≡ true → (ps : List Object) → Children k f ps → All (λ p. clash k p q ≡ false) ps → All (λ p. stands_as k f n p ≡ true → p.number ≡ o.number) ps
+      go : stands_as k f n q ≡ true → (ps : List Object) → Children k f ps → AllByRecursion (λ p. clash k p q ≡ false) ps → AllByRecursion (λ p. stands_as k f n p ≡ true → p.number ≡ o.number) ps
       go t [] d h = tt
       go t (p ∷ ps) d h = (
         (λ u.
@@ -54,7 +54,7 @@ module _ (k : Kind) (l : KeepsLaws k) (f : ℕ) (n : List ℕ) (w : k.lawful n �
         go t ps d.1 h.1,
       )
 
-  entries-removed : (x : ℕ) (os : List Object) → All (λ p. child_of f p ≡ true → numbered x p ≡ is_alike k n p.name) os
+  entries-removed : (x : ℕ) (os : List Object) → AllByRecursion (λ p. child_of f p ≡ true → numbered x p ≡ is_alike k n p.name) os
       → map entry_of (filter (child_of f) (filter (λ p. not (numbered x p)) os)) ≡ filter (λ r. not (named k n r)) (map entry_of (filter (child_of f) os))
   entries-removed x [] h = refl
   entries-removed x (p ∷ ps) h =
@@ -65,7 +65,7 @@ module _ (k : Kind) (l : KeepsLaws k) (f : ℕ) (n : List ℕ) (w : k.lawful n �
       (λ a. rw (h.0 t ∙ a, a) (rw t (ap (λ rs. entry_of p ∷ rs) rest))))))
       (λ t. rw t (by_test (numbered x p) (λ a. rw a rest) (λ a. rw (a, t) rest)))
 
-others_removed : (x g : ℕ) (os : List Object) → All (λ p. numbered x p ≡ true → child_of g p ≡ false) os → filter (child_of g) (filter (λ p. not (numbered x p)) os) ≡ filter (child_of g) os
+others_removed : (x g : ℕ) (os : List Object) → AllByRecursion (λ p. numbered x p ≡ true → child_of g p ≡ false) os → filter (child_of g) (filter (λ p. not (numbered x p)) os) ≡ filter (child_of g) os
 others_removed x g [] h = refl
 others_removed x g (p ∷ ps) h =
     let rest = others_removed x g ps h.1 in
@@ -73,7 +73,7 @@ others_removed x g (p ∷ ps) h =
     (λ a. rw (a, h.0 a) rest)
     (λ a. rw a (by_test (child_of g p) (λ t. rw t (ap (λ os. p ∷ os) rest)) (λ t. rw t rest)))
 
-lines_removed : (x : ℕ) (os : List Object) → x < 2 ^ 32 → All (λ o. o.number < 2 ^ 32) os → map line_of (filter (λ p. not (numbered x p)) os) ≡ filter (λ r. not (named register_numbers (bytes32 x) r)) (map line_of os)
+lines_removed : (x : ℕ) (os : List Object) → x < 2 ^ 32 → AllByRecursion (λ o. o.number < 2 ^ 32) os → map line_of (filter (λ p. not (numbered x p)) os) ≡ filter (λ r. not (named register_numbers (bytes32 x) r)) (map line_of os)
 lines_removed x [] l h = refl
 lines_removed x (p ∷ ps) l h =
     let same : is_alike register_numbers (bytes32 x) (key_of (line_of p)) ≡ numbered x p = alike_line (bytes32 x) p h.0 ∙ ap (λ m. numbered m p) (number_back x l) in
@@ -81,11 +81,11 @@ lines_removed x (p ∷ ps) l h =
     rw same (by_test (numbered x p) (λ a. rw a rest) (λ a. rw a (ap (λ rs. line_of p ∷ rs) rest)))
 
 module _ (k : Kind) (l : KeepsLaws k) (count : ℕ) (t : Tree) (s : Sound k count t) where
-  pub small : All (λ o. o.number < 2 ^ 32) t.objects
+  pub small : AllByRecursion (λ o. o.number < 2 ^ 32) t.objects
   small = let below = s.next in All-weaker (λ o. o.number < t.next) (λ o. o.number < 2 ^ 32) (λ o p. omega arith) t.objects (falling_below t.next t.objects s.falling)
 
   -- an object is known by its number
-  pub same_object : (o : Object) → find (numbered o.number) t.objects ≡ Some o → All (λ p. numbered o.number p ≡ true → p ≡ o) t.objects
+  pub same_object : (o : Object) → find (numbered o.number) t.objects ≡ Some o → AllByRecursion (λ p. numbered o.number p ≡ true → p ≡ o) t.objects
   same_object o e = All-weaker _ _ (λ p r u. let z : Some p ≡ Some o = sym (subst (λ (m : ℕ). find (numbered m) t.objects ≡ Some p) (eqb-true _ _ u) r) ∙ e in cc) t.objects (registered k count t s)
 
   module _ (f : ℕ) (n : List ℕ) (o : Object) (p : 1 ≤ f) (w : k.lawful n ≡ true) (e : looked_up k t f n ≡ Some o) where
@@ -95,8 +95,8 @@ module _ (k : Kind) (l : KeepsLaws k) (count : ℕ) (t : Tree) (s : Sound k coun
     pub stands : stands_as k f n o ≡ true
     stands = found_passes (stands_as k f n) t.objects o e
 
-    both : (os : List Object) → All (λ q. stands_as k f n q ≡ true → q.number ≡ o.number) os → All (λ q. numbered o.number q ≡ true → q ≡ o) os
-        → All (λ q. child_of f q ≡ true → numbered o.number q ≡ is_alike k n q.name) os
+    both : (os : List Object) → AllByRecursion (λ q. stands_as k f n q ≡ true → q.number ≡ o.number) os → AllByRecursion (λ q. numbered o.number q ≡ true → q ≡ o) os
+        → AllByRecursion (λ q. child_of f q ≡ true → numbered o.number q ≡ is_alike k n q.name) os
     both [] a b = tt
     both (q ∷ qs) a b = (
       (λ c. by_test (is_alike k n q.name)

@@ -1,6 +1,6 @@
 -- Every page in a history is as it should be.
 use Rattle.std.proofs.Common.{◌≡◌, ℕ, suc, ◌-◌, ◌^◌, ◌<◌, ◌≤◌, Bool, false, ltb, List, [], ◌∷◌, length, Some, None, Option, sym, refl, ap, ◌∙◌, subst, subst₂, arith}
-use Rattle.std.specs.List.{AllByRecursion as All}
+use Rattle.std.specs.List.{AllByRecursion}
 use Rattle.std.proofs.ByRecursion.{All-weaker}
 use Rattle.std.proofs.lemmas.Bool.{ltb-false, or_parts, not-false, ne_eqb}
 use Rattle.kinds.specs.Kinds.{Kind}
@@ -75,14 +75,14 @@ module _ (k : Kind) (l : KeepsLaws k) (count : ℕ) where
       → p.answer.end ≡ end → page_records (step k count d c.buffer c.allowance s).1 ≡ rs → Known k l f b (event k count s (record { call = d; buffer = c.buffer; allowance = c.allowance })) rs end in
       subst P (sym p.asked) (fair_page f b c.buffer c.allowance s h rs end p.answer) p.served p.mark p.shown
 
-  fair_all : (s : State) (cs : List Brought) → SoundState k count s → All (Fair k l) (history k count s cs)
+  fair_all : (s : State) (cs : List Brought) → SoundState k count s → AllByRecursion (Fair k l) (history k count s cs)
   fair_all s [] h = tt
   fair_all s (c ∷ cs) h = (fair c s h, fair_all (event k count s c).left cs (keep_step k l count c.call c.buffer c.allowance s h))
 
   -- every listing from a sound state on is complete
   pub listings : (s : State) → SoundState k count s → (calls : List Brought) → AllComplete k (history k count s calls)
   listings s h calls before es later f listed e t =
-      complete k l f es listed t (middle k l (Fair k l) before es later (let P : List Event → Type 0 = All (Fair k l) in subst P e (fair_all s calls h)))
+      complete k l f es listed t (middle k l (Fair k l) before es later (let P : List Event → Type 0 = AllByRecursion (Fair k l) in subst P e (fair_all s calls h)))
 
 pub listing_law : ListingLaw
 listing_law k l count image s calls = listings k l count (idle image) s calls

@@ -1,7 +1,7 @@
 -- Records that are put into an index one after another.
 use Rattle.std.proofs.Common.{◌≡◌, ℕ, Bool, true, false, cond, List, [], ◌∷◌, ◌++◌, Some, filter, Option, Ordering, Less, Equal, Greater, sym, refl, ap, ◌∙◌, subst}
 use Rattle.std.specs.Ordering.{is_lt, is_le}
-use Rattle.std.specs.List.{AllByRecursion as All}
+use Rattle.std.specs.List.{AllByRecursion}
 use Rattle.kinds.specs.Kinds.{Kind, position}
 use Rattle.records.specs.Records.{key_of}
 use Rattle.records.specs.Ordered.{before, after, put}
@@ -15,11 +15,11 @@ use Rattle.listings.specs.Listings.{is_after, Rising}
 use Rattle.listings.proofs.Places.{turn_back, eq_sym, lt_not, le_lt}
 use Rattle.listings.proofs.Rises.{Good, Mark, lt_true, true_lt, eq_le, less_le, alike_both, alike_on, is_mark, after_is, rising_all}
 
-pub kept_all : {X : Type 0} (test : X → Bool) (xs : List X) → All (λ x. test x ≡ true) xs → filter test xs ≡ xs
+pub kept_all : {X : Type 0} (test : X → Bool) (xs : List X) → AllByRecursion (λ x. test x ≡ true) xs → filter test xs ≡ xs
 kept_all test [] h = refl
 kept_all test (x ∷ xs) h = rw h.0 (ap (λ ys. x ∷ ys) (kept_all test xs h.1))
 
-kept_none : {X : Type 0} (test : X → Bool) (xs : List X) → All (λ x. test x ≡ false) xs → filter test xs ≡ []
+kept_none : {X : Type 0} (test : X → Bool) (xs : List X) → AllByRecursion (λ x. test x ≡ false) xs → filter test xs ≡ []
 kept_none test [] h = refl
 kept_none test (x ∷ xs) h = rw h.0 (kept_none test xs h.1)
 
@@ -37,26 +37,26 @@ by Greater x y z = z
 module _ (k : Kind) (l : KeepsLaws k) where
   -- what follows a record that is not before the key follows the key
   pub past : (key : List ℕ) (q : List ℕ) (qs : List (List ℕ)) → k.lawful key ≡ true → k.lawful (key_of q) ≡ true → Good k qs → Rising k (key_of q) qs → is_le (position k key (key_of q)) ≡ true
-      → All (λ x. position k key (key_of x) ≡ Less) qs
+      → AllByRecursion (λ x. position k key (key_of x) ≡ Less) qs
   past key q qs x y g r e = go qs g (rising_all k l (key_of q) qs (is_mark k l (key_of q) y) g r)
     where
-      go : (xs : List (List ℕ)) → Good k xs → All (λ x. is_after k (key_of q) (key_of x) ≡ true) xs → All (λ x. position k key (key_of x) ≡ Less) xs
+      go : (xs : List (List ℕ)) → Good k xs → AllByRecursion (λ x. is_after k (key_of q) (key_of x) ≡ true) xs → AllByRecursion (λ x. position k key (key_of x) ≡ Less) xs
       go [] h a = tt
       go (z ∷ zs) h a = (le_lt k l key (key_of q) (key_of z) x y h.0 e (true_lt _ (sym (after_is k l (key_of q) (key_of z) y) ∙ a.0)), go zs h.1 a.1)
 
-  pub after-all : (key : List ℕ) (xs : List (List ℕ)) → All (λ x. position k key (key_of x) ≡ Less) xs → after k key xs ≡ xs
+  pub after-all : (key : List ℕ) (xs : List (List ℕ)) → AllByRecursion (λ x. position k key (key_of x) ≡ Less) xs → after k key xs ≡ xs
   unfolding after
   after-all key xs h = kept_all _ xs (go xs h)
     where
-      go : (xs : List (List ℕ)) → All (λ x. position k key (key_of x) ≡ Less) xs → All (λ x. is_lt (position k key (key_of x)) ≡ true) xs
+      go : (xs : List (List ℕ)) → AllByRecursion (λ x. position k key (key_of x) ≡ Less) xs → AllByRecursion (λ x. is_lt (position k key (key_of x)) ≡ true) xs
       go [] h = tt
       go (z ∷ zs) h = (lt_true _ h.0, go zs h.1)
 
-  pub before_none : (key : List ℕ) (xs : List (List ℕ)) → k.lawful key ≡ true → Good k xs → All (λ x. position k key (key_of x) ≡ Less) xs → before k key xs ≡ []
+  pub before_none : (key : List ℕ) (xs : List (List ℕ)) → k.lawful key ≡ true → Good k xs → AllByRecursion (λ x. position k key (key_of x) ≡ Less) xs → before k key xs ≡ []
   unfolding before
   before_none key xs x g h = kept_none _ xs (go xs g h)
     where
-      go : (xs : List (List ℕ)) → Good k xs → All (λ x. position k key (key_of x) ≡ Less) xs → All (λ x. is_lt (position k (key_of x) key) ≡ false) xs
+      go : (xs : List (List ℕ)) → Good k xs → AllByRecursion (λ x. position k key (key_of x) ≡ Less) xs → AllByRecursion (λ x. is_lt (position k (key_of x) key) ≡ false) xs
       go [] g h = tt
       go (z ∷ zs) g h = (not_lt _ (lt_not k l key (key_of z) x g.0 h.0), go zs g.1 h.1)
 

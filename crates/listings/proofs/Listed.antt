@@ -1,6 +1,6 @@
 -- A listing among events whose pages are as they should be is complete.
 use Rattle.std.proofs.Common.{◌≡◌, ℕ, ◌+◌, Bool, true, false, List, [], ◌∷◌, ◌++◌, is_some, sym, refl, ap, ◌∙◌, subst, ⊎_elim, arith}
-use Rattle.std.specs.List.{AllByRecursion as All}
+use Rattle.std.specs.List.{AllByRecursion}
 use Rattle.std.proofs.ByRecursion.{All-append, All-weaker}
 use Rattle.kinds.specs.Kinds.{Kind}
 use Rattle.model.specs.Trees.{Tree, find, stands_as}
@@ -29,19 +29,19 @@ module _ (k : Kind) (l : KeepsLaws k) where
   pub record Lists (f : ℕ) (b : List ℕ) (es : List Event) (ss : List (List ℕ)) : Type 0 where
     pub lawful : Good k ss
     pub rising : Rising k b ss
-    pub stays : (n : List ℕ) → k.lawful n ≡ true → is_after k b n ≡ true → All (λ e. is_in k f n e ≡ true) es → times k n ss ≡ 1
-    pub absent : (n : List ℕ) → k.lawful n ≡ true → All (λ e. is_in k f n e ≡ false) es → times k n ss ≡ 0
+    pub stays : (n : List ℕ) → k.lawful n ≡ true → is_after k b n ≡ true → AllByRecursion (λ e. is_in k f n e ≡ true) es → times k n ss ≡ 1
+    pub absent : (n : List ℕ) → k.lawful n ≡ true → AllByRecursion (λ e. is_in k f n e ≡ false) es → times k n ss ≡ 0
 
-  shows : (f : ℕ) (e : Event) → Fair e → (b : List ℕ) (rs : List (List ℕ)) (end : Bool) → Page f b e rs end → All (Shows k f e.left) rs
+  shows : (f : ℕ) (e : Event) → Fair e → (b : List ℕ) (rs : List (List ℕ)) (end : Bool) → Page f b e rs end → AllByRecursion (Shows k f e.left) rs
   shows f e h b rs end p =
       let q = h f b rs end p in
-      let P : State → Type 0 = λ s. All (Shows k f s) rs in
+      let P : State → Type 0 = λ s. AllByRecursion (Shows k f s) rs in
       subst P (sym q.left) (All-weaker _ (Shows k f (live q.tree q.out)) (λ r t. record { in_folder = t.0; in_register = t.1 }) rs q.shown.held)
 
   in_tree : (f : ℕ) (b : List ℕ) (e : Event) (rs : List (List ℕ)) (end : Bool) (q : Known f b e rs end) (n : List ℕ) (v : Bool) → is_in k f n e ≡ v → is_some (find (stands_as k f n) q.tree.objects) ≡ v
   in_tree f b e rs end q n v h = let P : State → Type 0 = λ s. is_some (object_under k f n s) ≡ v in subst P q.left h
 
-  lists : (f : ℕ) {b : List ℕ} {es : List Event} {ss : List (List ℕ)} → Listing f b es ss → All Fair es → Mark k b → Lists f b es ss
+  lists : (f : ℕ) {b : List ℕ} {es : List Event} {ss : List (List ℕ)} → Listing f b es ss → AllByRecursion Fair es → Mark k b → Lists f b es ss
   lists f (last {b} {e} {rs} p) fair m =
       let q = fair.0 f b rs true p in
       record {
@@ -81,7 +81,7 @@ module _ (k : Kind) (l : KeepsLaws k) where
       }
 
   -- a listing among fair events is complete
-  pub complete : (f : ℕ) (es : List Event) (ss : List (List ℕ)) → Listing f [] es ss → All Fair es → Complete k f es ss
+  pub complete : (f : ℕ) (es : List Event) (ss : List (List ℕ)) → Listing f [] es ss → AllByRecursion Fair es → Complete k f es ss
   complete f es ss t fair =
       let r = lists f t fair tt in
       record {
@@ -91,7 +91,7 @@ module _ (k : Kind) (l : KeepsLaws k) where
         rising = r.rising;
       }
 
-  pub middle : (P : Event → Type 0) (a b c : List Event) → All P (a ++ (b ++ c)) → All P b
+  pub middle : (P : Event → Type 0) (a b c : List Event) → AllByRecursion P (a ++ (b ++ c)) → AllByRecursion P b
   middle P [] [] c h = tt
   middle P [] (e ∷ b) c h = (h.0, middle P [] b c h.1)
   middle P (e ∷ a) b c h = middle P a b c h.1

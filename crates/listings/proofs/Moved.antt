@@ -1,7 +1,7 @@
 -- How the indexes change with a rename.
 use Rattle.std.proofs.Common.{◌≡◌, ℕ, ◌^◌, ◌<◌, true, false, not, ◌&&◌, List, [], ◌∷◌, map, Some, None, filter, sym, refl, ap, ◌∙◌, ⊎_elim, arith}
 use Rattle.std.specs.Option.{option_map}
-use Rattle.std.specs.List.{AllByRecursion as All}
+use Rattle.std.specs.List.{AllByRecursion}
 use Rattle.std.proofs.ByRecursion.{all_kept_by}
 use Rattle.std.proofs.lemmas.Bool.{eq-eqb, ne_eqb, and_parts, cases_eq}
 use Rattle.kinds.specs.Kinds.{Kind}
@@ -44,7 +44,7 @@ module _ (k : Kind) (l : KeepsLaws k) (x g : ℕ) (m : List ℕ) (w : k.lawful m
   Free p = (not (numbered x p) && stands_as k g m p) ≡ false
 
   -- the target has the object under its new name
-  find_new : (o : Object) (n : List ℕ) (os : List Object) → k.lawful n ≡ true → is_alike k n m ≡ true → Children k g os → All Free os → find (numbered x) os ≡ Some o → find (stands_as k g n) (map (moved x g m) os) ≡ Some (placed_at g m o)
+  find_new : (o : Object) (n : List ℕ) (os : List Object) → k.lawful n ≡ true → is_alike k n m ≡ true → Children k g os → AllByRecursion Free os → find (numbered x) os ≡ Some o → find (stands_as k g n) (map (moved x g m) os) ≡ Some (placed_at g m o)
   find_new o n [] v a c h e = let z : None ≡ Some o = e in let u : ◌≡◌ {A = ℕ} 0 1 = cc in absurd (omega arith)
   find_new o n (p ∷ ps) v a c h e =
       by_test (numbered x p)
@@ -70,7 +70,7 @@ module _ (k : Kind) (l : KeepsLaws k) (x g : ℕ) (m : List ℕ) (w : k.lawful m
   children_moved [] c = tt
   children_moved (p ∷ ps) c = (by_test (numbered x p) (λ t. rw t (λ _. w)) (λ t. rw t c.0), children_moved ps c.1)
 
-  target_moved : (o : Object) (os : List Object) → Children k g os → All Free os → find (numbered x) os ≡ Some o
+  target_moved : (o : Object) (os : List Object) → Children k g os → AllByRecursion Free os → find (numbered x) os ≡ Some o
       → indexed k (entries k l g (map (moved x g m) os)) ≡ indexed k (entry_of (placed_at g m o) ∷ entries k l g (filter (λ p. not (numbered x p)) os))
   target_moved o os c h e =
       let os' = map (moved x g m) os in
@@ -82,7 +82,7 @@ module _ (k : Kind) (l : KeepsLaws k) (x g : ℕ) (m : List ℕ) (w : k.lawful m
       (λ a. ap (option_map entry_of) (find_old n os a) ∙ sym (find-entries k l g n left) ∙ sym (rw (key_entry (placed_at g m o), a))))
 
 -- the register's record is replaced
-lines_moved : (x g : ℕ) (m : List ℕ) (o : Object) (os : List Object) → o.number ≡ x → All (λ p. p.number < 2 ^ 32) os → find (numbered x) os ≡ Some o
+lines_moved : (x g : ℕ) (m : List ℕ) (o : Object) (os : List Object) → o.number ≡ x → AllByRecursion (λ p. p.number < 2 ^ 32) os → find (numbered x) os ≡ Some o
     → indexed register_numbers (map line_of (map (moved x g m) os)) ≡ indexed register_numbers (line_of (placed_at g m o) ∷ map line_of os)
 lines_moved x g m o os num low e =
     let os' = map (moved x g m) os in

@@ -1,6 +1,6 @@
 -- Records that are taken out of an index, and indexes that have the same records.
 use Rattle.std.proofs.Common.{◌≡◌, ℕ, true, false, cond, not, List, [], ◌∷◌, ◌++◌, is_some, Some, None, filter, Option, Ordering, Less, Equal, Greater, sym, refl, ap, ◌∙◌, ap₂, arith}
-use Rattle.std.specs.List.{AllByRecursion as All}
+use Rattle.std.specs.List.{AllByRecursion}
 use Rattle.std.proofs.ByRecursion.{all_kept_by}
 use Rattle.kinds.specs.Kinds.{Kind, position}
 use Rattle.records.specs.Records.{key_of}
@@ -19,7 +19,7 @@ module _ (k : Kind) (l : KeepsLaws k) where
   unlike : (key x : List ℕ) → k.lawful key ≡ true → k.lawful (key_of x) ≡ true → (position k key (key_of x) ≡ Equal → ⊥) → named k key x ≡ false
   unlike key x w y h = by_test (named k key x) (λ t. absurd (h (alike_equal k l key (key_of x) w y t))) (λ t. t)
 
-  unlike_all : (key : List ℕ) (xs : List (List ℕ)) → k.lawful key ≡ true → Good k xs → All (λ x. position k key (key_of x) ≡ Less) xs → All (λ x. not (named k key x) ≡ true) xs
+  unlike_all : (key : List ℕ) (xs : List (List ℕ)) → k.lawful key ≡ true → Good k xs → AllByRecursion (λ x. position k key (key_of x) ≡ Less) xs → AllByRecursion (λ x. not (named k key x) ≡ true) xs
   unlike_all key [] w g h = tt
   unlike_all key (x ∷ xs) w g h =
       (ap not (unlike key x w g.0 (λ e. let z : Less ≡ Equal = sym h.0 ∙ e in let y : ◌≡◌ {A = ℕ} 0 1 = cc in omega arith)), unlike_all key xs w g.1 h.1)

@@ -1,7 +1,7 @@
 -- Records in rising position, and how often a name is among them.
 use Rattle.std.proofs.Common.{◌≡◌, ℕ, ◌+◌, Bool, true, false, cond, List, [], ◌∷◌, ◌++◌, is_some, Some, filter, Ordering, Less, Equal, Greater, sym, refl, ap, ◌∙◌, add_assoc, zero-add, arith}
 use Rattle.std.specs.Ordering.{is_lt, is_le}
-use Rattle.std.specs.List.{AllByRecursion as All}
+use Rattle.std.specs.List.{AllByRecursion}
 use Rattle.std.proofs.ByRecursion.{All-append}
 use Rattle.kinds.specs.Kinds.{Kind, position}
 use Rattle.records.specs.Records.{key_of}
@@ -14,7 +14,7 @@ use Rattle.listings.proofs.Places.{self, turn, chain, eq_sym, lt_not, lt_le, ali
 
 -- records with lawful keys
 abbrev pub Good : Kind → List (List ℕ) → Type 0
-Good k rs = All (λ r. k.lawful (key_of r) ≡ true) rs
+Good k rs = AllByRecursion (λ r. k.lawful (key_of r) ≡ true) rs
 
 -- a bookmark is empty or lawful
 abbrev pub Mark : Kind → List ℕ → Type 0
@@ -85,7 +85,7 @@ module _ (k : Kind) (l : KeepsLaws k) where
       (λ e. rw e (rising_kept test c os h g.1 (rising_from c (key_of o) os h g.0 g.1 r.0 r.1)))
 
   -- every one of them comes after the bookmark
-  pub rising_all : (b : List ℕ) (rs : List (List ℕ)) → Mark k b → Good k rs → Rising k b rs → All (λ r. is_after k b (key_of r) ≡ true) rs
+  pub rising_all : (b : List ℕ) (rs : List (List ℕ)) → Mark k b → Good k rs → Rising k b rs → AllByRecursion (λ r. is_after k b (key_of r) ≡ true) rs
   rising_all b [] h g r = tt
   rising_all b (o ∷ os) h g r = (r.0, rising_all b os h g.1 (rising_from b (key_of o) os h g.0 g.1 r.0 r.1))
 
@@ -112,7 +112,7 @@ module _ (k : Kind) (l : KeepsLaws k) where
 
   -- each record of a rising list is found in it by its name
   abbrev Finds : List (List ℕ) → List (List ℕ) → Type 0
-  Finds all rs = All (λ r. find (named k (key_of r)) all ≡ Some r) rs
+  Finds all rs = AllByRecursion (λ r. find (named k (key_of r)) all ≡ Some r) rs
 
   finds_more : (o : List ℕ) (all rs : List (List ℕ)) → k.lawful (key_of o) ≡ true → Good k all → Rising k (key_of o) all → Good k rs → Finds all rs → Finds (o ∷ all) rs
   finds_more o all [] x g r d f = tt

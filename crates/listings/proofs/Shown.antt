@@ -2,7 +2,7 @@
 use Rattle.std.proofs.Common.{◌≡◌, ℕ, suc, ◌-◌, ◌^◌, ◌<◌, ◌≤◌, Bool, true, false, cond, eqb, leb, ◌⊎◌, List, [], ◌∷◌, ◌++◌, map, length, is_some, Some, None, filter, Option, sym, refl, ap, ◌∙◌, subst, inl, inr, ⊎_elim, arith}
 use lib.Dec.{eqb-suc-suc, eqb-zero-suc}
 use Rattle.std.specs.Option.{option_map}
-use Rattle.std.specs.List.{AllByRecursion as All}
+use Rattle.std.specs.List.{AllByRecursion}
 use Rattle.std.proofs.ByRecursion.{all_kept_by}
 use Rattle.std.proofs.lemmas.List.{drop_at}
 use Rattle.std.proofs.lemmas.Bool.{eqb-true, and_parts, ne_eqb, leb-true}
@@ -53,7 +53,7 @@ module _ (k : Kind) (l : KeepsLaws k) where
       (λ s. rw s (find-later b n os h w g.1 a))))
 
   -- as many of the first as fit
-  all-fitting : (P : List ℕ → Type 0) (room : ℕ) (rs : List (List ℕ)) → All P rs → All P (fitting room rs)
+  all-fitting : (P : List ℕ → Type 0) (room : ℕ) (rs : List (List ℕ)) → AllByRecursion P rs → AllByRecursion P (fitting room rs)
   all-fitting P room [] g = tt
   all-fitting P room (o ∷ os) g =
       by_test (leb (weight o) room) (λ e. rw e (g.0, all-fitting P (room - weight o) os g.1)) (λ e. rw e tt)
@@ -119,7 +119,7 @@ module _ (k : Kind) (l : KeepsLaws k) where
     pub there : (n : List ℕ) → k.lawful n ≡ true → is_some (find (stands_as k f n) os) ≡ true → is_after k b n ≡ true
         → (is_some (find (named k n) listed) ≡ true) ⊎ ((is_after k (last_name b listed) n ≡ true) × (end ≡ false))
     pub absent : (n : List ℕ) → k.lawful n ≡ true → is_some (find (stands_as k f n) os) ≡ false → times k n listed ≡ 0
-    pub held : All (λ r. (find (stands_as k f (key_of r)) os ≡ Some (told f r)) × (find (numbered (told f r).number) os ≡ Some (told f r))) listed
+    pub held : AllByRecursion (λ r. (find (stands_as k f (key_of r)) os ≡ Some (told f r)) × (find (numbered (told f r).number) os ≡ Some (told f r))) listed
 
   told_back : (f : ℕ) (o : Object) → o.parent ≡ f → o.number < 2 ^ 32 → told f (entry_of o) ≡ o
   told_back f o p h =
@@ -132,7 +132,7 @@ module _ (k : Kind) (l : KeepsLaws k) where
   mapped_is None r e = let z : ◌≡◌ {A = ℕ} 0 1 = cc in absurd (omega arith)
   mapped_is (Some o) r e = (o, (refl, cc))
 
-  module _ (os : List Object) (f : ℕ) (c : Children k f os) (small : All (λ o. o.number < 2 ^ 32) os) (reg : All (λ o. find (numbered o.number) os ≡ Some o) os) where
+  module _ (os : List Object) (f : ℕ) (c : Children k f os) (small : AllByRecursion (λ o. o.number < 2 ^ 32) os) (reg : AllByRecursion (λ o. find (numbered o.number) os ≡ Some o) os) where
     good : Good k (indexed k (entries f os))
     good = good_indexed k l (entries f os) (good_entries f os c)
 
@@ -162,7 +162,7 @@ module _ (k : Kind) (l : KeepsLaws k) where
         let same : told f r ≡ o = ap (told f) (sym m.1.1) ∙ told_back f o mine low in
         (m.1.0 ∙ ap Some (sym same), subst (λ (p : Object). find (numbered p.number) os ≡ Some p) (sym same) here)
 
-    all_tell : (rs : List (List ℕ)) → Good k rs → All (λ r. find (named k (key_of r)) (indexed k (entries f os)) ≡ Some r) rs → All Tells rs
+    all_tell : (rs : List (List ℕ)) → Good k rs → AllByRecursion (λ r. find (named k (key_of r)) (indexed k (entries f os)) ≡ Some r) rs → AllByRecursion Tells rs
     all_tell [] g h = tt
     all_tell (r ∷ rs) g h = (tells r g.0 h.0, all_tell rs g.1 h.1)
 

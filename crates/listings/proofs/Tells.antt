@@ -1,7 +1,7 @@
 -- Indexes have what the tree has.
 use Rattle.std.proofs.Common.{◌≡◌, ℕ, ◌^◌, ◌<◌, List, [], ◌∷◌, map, refl, ap, ◌∙◌, arith}
 use Rattle.std.specs.Option.{option_map}
-use Rattle.std.specs.List.{AllByRecursion as All}
+use Rattle.std.specs.List.{AllByRecursion}
 use Rattle.std.proofs.ByRecursion.{All-weaker}
 use Rattle.words.specs.BigEndian.{bytes32}
 use Rattle.kinds.specs.Numbers.{number_of, register_numbers}
@@ -25,7 +25,7 @@ pub good_lines : (os : List Object) → Good register_numbers (map line_of os)
 good_lines [] = tt
 good_lines (o ∷ os) = (refl, good_lines os)
 
-pub find_lines : (key : List ℕ) (os : List Object) → All (λ o. o.number < 2 ^ 32) os → find (named register_numbers key) (map line_of os) ≡ option_map line_of (find (numbered (number_of key)) os)
+pub find_lines : (key : List ℕ) (os : List Object) → AllByRecursion (λ o. o.number < 2 ^ 32) os → find (named register_numbers key) (map line_of os) ≡ option_map line_of (find (numbered (number_of key)) os)
 find_lines key [] h = refl
 find_lines key (o ∷ os) h =
     rw (alike_line key o h.0) (by_test (numbered (number_of key) o) (λ e. rw e) (λ e. rw e (find_lines key os h.1)))

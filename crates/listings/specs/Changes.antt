@@ -44,5 +44,5 @@ RemoveTakes =
 -- so it is where lookup finds the object, and no other has the new name
 abbrev pub RenameMoves : Type 0
 RenameMoves =
-    (kind : Kind) → KeepsLaws kind → (count : ℕ) (tree : Tree) → Sound kind count tree → (folder : ℕ) (name : List ℕ) (o : Object) (target : ℕ) (newName : List ℕ) → 1 ≤ folder → 1 ≤ target
-    → kind.lawful newName ≡ true → looked_up kind tree folder name ≡ Some o → is_taken kind tree o.number target newName ≡ false → PutsMoved kind tree o target newName
+    (kind : Kind) → KeepsLaws kind → (count : ℕ) (tree : Tree) → Sound kind count tree → (folder : ℕ) (name : List ℕ) (o : Object) (target : ℕ) (new_name : List ℕ) → 1 ≤ folder → 1 ≤ target
+    → kind.lawful new_name ≡ true → looked_up kind tree folder name ≡ Some o → is_taken kind tree o.number target new_name ≡ false → PutsMoved kind tree o target new_name

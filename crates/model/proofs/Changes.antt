@@ -1,7 +1,7 @@
 -- A sound tree is sound after a create and after a remove.
 use Rattle.std.proofs.Common.{◌≡◌, ℕ, zero, suc, ◌<◌, ◌≤◌, Bool, true, false, not, ◌⊎◌, List, [], ◌∷◌, is_some, filter, Option, unwrap_or, sym, refl, ap, ◌∙◌, inl, inr, ⊎_elim, arith}
 use Rattle.std.specs.Option.{option_map}
-use Rattle.std.specs.List.{AllByRecursion as All}
+use Rattle.std.specs.List.{AllByRecursion}
 use Rattle.std.proofs.ByRecursion.{All-weaker, all_kept_by}
 use Rattle.std.proofs.lemmas.Bool.{eqb-true, eqb-false, eq-eqb, ne_eqb, and_parts, not-true}
 use Rattle.kinds.specs.Kinds.{Kind}
@@ -20,7 +20,7 @@ use Rattle.model.proofs.Facts.{past_root, grounded, folder_some, children, paren
 some_more : (test : Object → Bool) (o : Object) (os : List Object) → is_some (find test os) ≡ true → is_some (find test (o ∷ os)) ≡ true
 some_more test o os h = by_test (test o) (λ e. rw e) (λ e. rw e h)
 
-all_passing : (P Q : Object → Type 0) (q : Object → Bool) → ((o : Object) → q o ≡ true → P o → Q o) → (os : List Object) → All P os → All Q (filter q os)
+all_passing : (P Q : Object → Type 0) (q : Object → Bool) → ((o : Object) → q o ≡ true → P o → Q o) → (os : List Object) → AllByRecursion P os → AllByRecursion Q (filter q os)
 all_passing P Q q h [] a = tt
 all_passing P Q q h (o ∷ os) a =
     by_test (q o) (λ t. rw t (h o t a.0, all_passing P Q q h os a.1)) (λ t. rw t (all_passing P Q q h os a.1))
@@ -31,7 +31,7 @@ module _ (k : Kind) (l : KeepsLaws k) (count : ℕ) (t : Tree) (s : Sound k coun
     same : (m : ℕ) → (m ≡ t.next → ⊥) → parent_of (created t f n kind).objects m ≡ parent_of t.objects m
     same m h = rw (ne_eqb t.next m (λ e. h (sym e)))
 
-    below : All (λ o. o.number < t.next) t.objects
+    below : AllByRecursion (λ o. o.number < t.next) t.objects
     below = falling_below t.next t.objects s.falling
 
     stuck : (d : ℕ) → climbed d t.objects t.next ≡ 1 → ⊥
@@ -67,7 +67,7 @@ module _ (k : Kind) (l : KeepsLaws k) (count : ℕ) (t : Tree) (s : Sound k coun
           room = room;
         }
 
-  module _ (x : ℕ) (some : 1 ≤ x) (other : x ≡ 1 → ⊥) (leaf : All (λ o. child_of x o ≡ false) t.objects) where
+  module _ (x : ℕ) (some : 1 ≤ x) (other : x ≡ 1 → ⊥) (leaf : AllByRecursion (λ o. child_of x o ≡ false) t.objects) where
     same-parent : (m : ℕ) → (m ≡ x → ⊥) → parent_of (removed t x).objects m ≡ parent_of t.objects m
     same-parent m h = ap (λ (o : Option Object). unwrap_or (option_map (λ p. p.parent) o) 0) (find_other m x h t.objects)
 
@@ -82,11 +82,11 @@ module _ (k : Kind) (l : KeepsLaws k) (count : ℕ) (t : Tree) (s : Sound k coun
     placed-left o c h =
         ⊎_elim (λ (r : o ≡ root). inl r) (λ (q : Placed k t.objects o). inr (record { named = q.named; parent = ap is_some (folder-left o.parent (eqb-false o.parent x c)) ∙ q.parent })) h
 
-    both_left : (ps : List Object) → All (λ o. child_of x o ≡ false) ps → All (λ o. (o ≡ root) ⊎ Placed k t.objects o) ps → All (λ o. (o ≡ root) ⊎ Placed k (removed t x).objects o) ps
+    both_left : (ps : List Object) → AllByRecursion (λ o. child_of x o ≡ false) ps → AllByRecursion (λ o. (o ≡ root) ⊎ Placed k t.objects o) ps → AllByRecursion (λ o. (o ≡ root) ⊎ Placed k (removed t x).objects o) ps
     both_left [] c h = tt
     both_left (o ∷ ps) c h = (placed-left o c.0 h.0, both_left ps c.1 h.1)
 
-    all-children : All (λ o. Children k o.number t.objects) t.objects
+    all-children : AllByRecursion (λ o. Children k o.number t.objects) t.objects
     all-children = All-weaker (λ o. 1 ≤ o.number) _ (λ o h. children k count t s o.number h) t.objects s.positive
 
     pub sound-removed : Sound k count (removed t x)

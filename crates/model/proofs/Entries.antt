@@ -1,7 +1,7 @@
 -- The records of objects: their keys, and that no two have one position.
 use Rattle.std.proofs.Common.{◌≡◌, ℕ, ◌^◌, ◌<◌, true, false, cond, not, ltb, List, [], ◌∷◌, ◌++◌, map, length, filter, Ordering, Less, Greater, sym, refl, ◌∙◌, arith}
 use Rattle.std.specs.Ordering.{is_lt, is_eq}
-use Rattle.std.specs.List.{AllByRecursion as All}
+use Rattle.std.specs.List.{AllByRecursion}
 use Rattle.std.proofs.lemmas.List.{take_at}
 use Rattle.std.proofs.lemmas.Bool.{eqb-true, eq-eqb}
 use Rattle.std.proofs.lemmas.Bool.Decides.{nat_tests}
@@ -39,13 +39,13 @@ lines_separated n (o ∷ os) s f =
     let small : o.number < 2 ^ 32 = omega arith in
     (go os (falling_below o.number os f.1) small, lines_separated o.number os small f.1)
   where
-    go : (ps : List Object) → All (λ p. p.number < o.number) ps → o.number < 2 ^ 32 → All (Separate register_numbers (line_of o)) (map line_of ps)
+    go : (ps : List Object) → AllByRecursion (λ p. p.number < o.number) ps → o.number < 2 ^ 32 → AllByRecursion (Separate register_numbers (line_of o)) (map line_of ps)
     go [] b s = tt
     go (p ∷ ps) b s = (lines_apart o p b.0 s, go ps b.1 s)
 
 -- the objects of a folder have lawful names
 abbrev pub Children : Kind → ℕ → List Object → Type 0
-Children k f os = All (λ o. child_of f o ≡ true → k.lawful o.name ≡ true) os
+Children k f os = AllByRecursion (λ o. child_of f o ≡ true → k.lawful o.name ≡ true) os
 
 module _ (k : Kind) (t : TotalOrder k.lawful k.order) where
   names_apart : (f : ℕ) (o p : Object) → k.lawful o.name ≡ true → k.lawful p.name ≡ true → child_of f o ≡ true → child_of f p ≡ true → clash k p o ≡ false → Separate k (entry_of o) (entry_of p)
@@ -62,7 +62,7 @@ module _ (k : Kind) (t : TotalOrder k.lawful k.order) where
       (λ e. rw e (go os e (c.0 e) c.1 a.0, entries_separated f os c.1 a.1))
       (λ e. rw e (entries_separated f os c.1 a.1))
     where
-      go : (ps : List Object) → child_of f o ≡ true → k.lawful o.name ≡ true → Children k f ps → All (λ p. clash k p o ≡ false) ps → All (Separate k (entry_of o)) (map entry_of (filter (child_of f) ps))
+      go : (ps : List Object) → child_of f o ≡ true → k.lawful o.name ≡ true → Children k f ps → AllByRecursion (λ p. clash k p o ≡ false) ps → AllByRecursion (Separate k (entry_of o)) (map entry_of (filter (child_of f) ps))
       go [] e x c h = tt
       go (p ∷ ps) e x c h =
           by_test (child_of f p)

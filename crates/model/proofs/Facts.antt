@@ -1,7 +1,7 @@
 -- What follows for a sound tree.
 use Rattle.std.proofs.Common.{◌≡◌, ℕ, ◌<◌, ◌≤◌, true, false, ◌⊎◌, List, [], ◌∷◌, is_some, Some, None, Option, unwrap_or, sym, refl, ap, ◌∙◌, subst, ⊎_elim, arith}
 use Rattle.std.specs.Option.{option_map}
-use Rattle.std.specs.List.{AllByRecursion as All}
+use Rattle.std.specs.List.{AllByRecursion}
 use Rattle.std.proofs.ByRecursion.{All-weaker}
 use Rattle.std.proofs.lemmas.Bool.{eqb-true, eqb-false, ne_eqb, and_parts, or_parts, not-false}
 use Rattle.kinds.specs.Kinds.{Kind}
@@ -18,11 +18,11 @@ pub lawful_name : (k : Kind) (n : List ℕ) → is_bad_name k n ≡ false → k.
 unfolding is_bad_name
 lawful_name k n e = not-false _ (or_parts _ _ e).0
 
-none_numbered : (n : ℕ) (os : List Object) → All (λ o. o.number ≡ n → ⊥) os → find (numbered n) os ≡ None
+none_numbered : (n : ℕ) (os : List Object) → AllByRecursion (λ o. o.number ≡ n → ⊥) os → find (numbered n) os ≡ None
 none_numbered n [] h = refl
 none_numbered n (o ∷ os) h = rw (ne_eqb o.number n h.0) (none_numbered n os h.1)
 
-pub parent_none : (n : ℕ) (os : List Object) → All (λ o. o.number ≡ n → ⊥) os → parent_of os n ≡ 0
+pub parent_none : (n : ℕ) (os : List Object) → AllByRecursion (λ o. o.number ≡ n → ⊥) os → parent_of os n ≡ 0
 parent_none n os h = ap (λ (o : Option Object). unwrap_or (option_map (λ p. p.parent) o) 0) (none_numbered n os h)
 
 -- the number under which a lookup found an object
@@ -35,7 +35,7 @@ pub record FoundAs (os : List Object) (f x : ℕ) : Type 0 where
   pub some : 1 ≤ x
 
 module _ (k : Kind) (count : ℕ) (t : Tree) (s : Sound k count t) where
-  pub registered : All (λ o. find (numbered o.number) t.objects ≡ Some o) t.objects
+  pub registered : AllByRecursion (λ o. find (numbered o.number) t.objects ≡ Some o) t.objects
   registered = by_number t.next t.objects s.falling
 
   pub past_root : 1 < t.next
@@ -81,12 +81,12 @@ module _ (k : Kind) (count : ℕ) (t : Tree) (s : Sound k count t) where
       (record { object = o.0; number = refl; mine = mine; there = here; other = not-one; some = low })
 
   -- an object that is no folder is no parent
-  pub barren : (x : ℕ) → 1 ≤ x → has_folder x t ≡ false → All (λ o. child_of x o ≡ false) t.objects
+  pub barren : (x : ℕ) → 1 ≤ x → has_folder x t ≡ false → AllByRecursion (λ o. child_of x o ≡ false) t.objects
   barren x p h = All-weaker _ _ (λ o q. ⊎_elim
       (λ (r : o ≡ root). ne_eqb o.parent x (λ e. let z : o.parent ≡ 0 = ap (λ (y : Object). y.parent) r in omega arith))
       (λ (y : Placed k t.objects o). ne_eqb o.parent x (λ e. never _ (subst (λ (m : ℕ). has_folder m t ≡ true) e y.parent) h)) q) t.objects s.placed
 
-  pub no_parent : (x : ℕ) → 1 ≤ x → All (λ o. child_of x o ≡ false) t.objects → (m : ℕ) → parent_of t.objects m ≡ x → ⊥
+  pub no_parent : (x : ℕ) → 1 ≤ x → AllByRecursion (λ o. child_of x o ≡ false) t.objects → (m : ℕ) → parent_of t.objects m ≡ x → ⊥
   no_parent x p h m e = go (find (numbered m) t.objects) refl e
     where
       go : (v : Option Object) → find (numbered m) t.objects ≡ v → unwrap_or (option_map (λ q. q.parent) v) 0 ≡ x → ⊥

@@ -1,6 +1,6 @@
 -- The first of a list that passes a test.
 use Rattle.std.proofs.Common.{◌≡◌, ℕ, Bool, true, false, List, [], ◌∷◌, is_some, Some, None, Option, sym, refl, ap, ◌∙◌, arith}
-use Rattle.std.specs.List.{AllByRecursion as All}
+use Rattle.std.specs.List.{AllByRecursion}
 use Rattle.model.specs.Trees.{find}
 
 pub by_test : {X : Type 0} (b : Bool) → (b ≡ true → X) → (b ≡ false → X) → X
@@ -16,12 +16,12 @@ module _ {X : Type 0} (test : X → Bool) where
   found_passes (y ∷ ys) x e =
       by_test (test y) (λ t. let z : Some y ≡ Some x = rw t at e in let w : y ≡ x = cc in ap test (sym w) ∙ t) (λ t. found_passes ys x (rw t at e))
 
-  pub found_all : (P : X → Type 0) (xs : List X) (x : X) → All P xs → find test xs ≡ Some x → P x
+  pub found_all : (P : X → Type 0) (xs : List X) (x : X) → AllByRecursion P xs → find test xs ≡ Some x → P x
   found_all P [] x h e = let z : ◌≡◌ {A = ℕ} 0 1 = cc in absurd (omega arith)
   found_all P (y ∷ ys) x h e =
       by_test (test y) (λ t. let z : Some y ≡ Some x = rw t at e in let w : y ≡ x = cc in rw (← w) h.0) (λ t. found_all P ys x h.1 (rw t at e))
 
-  pub none_passes : (xs : List X) → is_some (find test xs) ≡ false → All (λ x. test x ≡ false) xs
+  pub none_passes : (xs : List X) → is_some (find test xs) ≡ false → AllByRecursion (λ x. test x ≡ false) xs
   none_passes [] e = tt
   none_passes (y ∷ ys) e = by_test (test y) (λ t. never _ refl (rw t at e)) (λ t. (t, none_passes ys (rw t at e)))
 

@@ -1,6 +1,6 @@
 -- Numbers are given once.
 use Rattle.std.proofs.Common.{◌≡◌, ℕ, ◌+◌, ◌<◌, ◌≤◌, List, [], ◌∷◌, ◌++◌, length, Some, None, Option, sym, refl, ap, ◌∙◌, subst, arith}
-use Rattle.std.specs.List.{AllByRecursion as All}
+use Rattle.std.specs.List.{AllByRecursion}
 use Rattle.kinds.specs.Kinds.{Kind}
 use Rattle.model.specs.declared.refusal.Refusal.{Refusal}
 use Rattle.model.specs.Refusals.{first_of}
@@ -60,7 +60,7 @@ module _ (k : Kind) (count : ℕ) where
   onward_event (live t out) b n h f =
       onward k count b.buffer t out b.call (first_of (reasons k count (length b.buffer) b.allowance (live t out) b.call)) n h (λ x y. f (x, y))
 
-  later : (s : State) (bs : List Brought) (between after : List Event) (f : Event) (m n : ℕ) → From m s → history k count s bs ≡ between ++ f ∷ after → All (λ x. Formats x → ⊥) between → f.answer ≡ made n → m ≤ n
+  later : (s : State) (bs : List Brought) (between after : List Event) (f : Event) (m n : ℕ) → From m s → history k count s bs ≡ between ++ f ∷ after → AllByRecursion (λ x. Formats x → ⊥) between → f.answer ≡ made n → m ≤ n
   later s [] [] after f m n h e a g = let z : ◌≡◌ {A = ℕ} 0 1 = cc in absurd (omega arith)
   later s [] (x ∷ between) after f m n h e a g = let z : ◌≡◌ {A = ℕ} 0 1 = cc in absurd (omega arith)
   later s (b ∷ bs) [] after f m n h e a g =
@@ -75,7 +75,7 @@ module _ (k : Kind) (count : ℕ) where
       later (event k count s b).left bs between after f m n (onward_event s b m h (subst (λ (y : Event). Formats y → ⊥) (sym same) a.0)) rest a.1 g
 
   once : (s : State) (bs : List Brought) (before between after : List Event) (e f : Event) (m n : ℕ) → history k count s bs ≡ before ++ e ∷ (between ++ f ∷ after)
-      → e.answer ≡ made m → All (λ x. Formats x → ⊥) between → f.answer ≡ made n → m < n
+      → e.answer ≡ made m → AllByRecursion (λ x. Formats x → ⊥) between → f.answer ≡ made n → m < n
   once s [] [] between after e f m n h p a q = let z : ◌≡◌ {A = ℕ} 0 1 = cc in absurd (omega arith)
   once s [] (x ∷ before) between after e f m n h p a q = let z : ◌≡◌ {A = ℕ} 0 1 = cc in absurd (omega arith)
   once s (b ∷ bs) [] between after e f m n h p a q =

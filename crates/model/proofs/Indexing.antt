@@ -1,7 +1,7 @@
 -- What an index holds of the records that were put into it.
 use Rattle.std.proofs.Common.{◌≡◌, ℕ, ◌+◌, Bool, true, false, not, List, [], ◌∷◌, sum_by, filter, refl, ap, ◌∙◌, arith}
 use Rattle.std.specs.Ordering.{is_lt}
-use Rattle.std.specs.List.{AllByRecursion as All}
+use Rattle.std.specs.List.{AllByRecursion}
 use Rattle.std.proofs.ByRecursion.{All-append, all_kept_by}
 use Rattle.std.proofs.lemmas.List.Sums.{sum_by-cons, sum_by-append}
 use Rattle.kinds.specs.Kinds.{Kind, position}
@@ -11,11 +11,11 @@ use Rattle.model.specs.Indexes.{indexed}
 use Rattle.model.proofs.Finds.{by_test}
 
 module _ (k : Kind) where
-  all-put : (P : List ℕ → Type 0) (r : List ℕ) (qs : List (List ℕ)) → P r → All P qs → All P (put k r qs)
+  all-put : (P : List ℕ → Type 0) (r : List ℕ) (qs : List (List ℕ)) → P r → AllByRecursion P qs → AllByRecursion P (put k r qs)
   unfolding put before after
   all-put P r qs x g = All-append P _ _ (all_kept_by _ P qs g) (x, all_kept_by _ P qs g)
 
-  pub all-indexed : (P : List ℕ → Type 0) (rs : List (List ℕ)) → All P rs → All P (indexed k rs)
+  pub all-indexed : (P : List ℕ → Type 0) (rs : List (List ℕ)) → AllByRecursion P rs → AllByRecursion P (indexed k rs)
   all-indexed P [] g = tt
   all-indexed P (r ∷ rs) g = all-put P r (indexed k rs) g.0 (all-indexed P rs g.1)
 
@@ -25,9 +25,9 @@ module _ (k : Kind) where
 
   abbrev pub Separated : List (List ℕ) → Type 0
   Separated [] = Unit {0}
-  Separated (r ∷ rs) = All (Separate r) rs × Separated rs
+  Separated (r ∷ rs) = AllByRecursion (Separate r) rs × Separated rs
 
-sum_split : {X : Type 0} (g : X → ℕ) (p q : X → Bool) (xs : List X) → All (λ x. p x ≡ not (q x)) xs → sum_by g (filter p xs) + sum_by g (filter q xs) ≡ sum_by g xs
+sum_split : {X : Type 0} (g : X → ℕ) (p q : X → Bool) (xs : List X) → AllByRecursion (λ x. p x ≡ not (q x)) xs → sum_by g (filter p xs) + sum_by g (filter q xs) ≡ sum_by g xs
 sum_split g p q [] h = refl
 sum_split g p q (x ∷ xs) h =
     let e = sum_split g p q xs h.1 in
@@ -37,7 +37,7 @@ sum_split g p q (x ∷ xs) h =
     (λ t. let u : p x ≡ true = h.0 ∙ ap not t in rw (u, t) (let s = sum_by-cons g x (filter p xs) in omega arith))
 
 module _ (k : Kind) (g : List ℕ → ℕ) where
-  sum-put : (r : List ℕ) (qs : List (List ℕ)) → All (Separate k r) qs → sum_by g (put k r qs) ≡ g r + sum_by g qs
+  sum-put : (r : List ℕ) (qs : List (List ℕ)) → AllByRecursion (Separate k r) qs → sum_by g (put k r qs) ≡ g r + sum_by g qs
   unfolding put before after
   sum-put r qs h =
       let b = filter (λ x. is_lt (position k (key_of x) (key_of r))) qs in

@@ -1,6 +1,6 @@
 -- Every call leaves a sound tree where it found one.
 use Rattle.std.proofs.Common.{◌≡◌, ℕ, ◌≤◌, true, false, List, [], ◌∷◌, length, Some, None, Option, refl, inl, ⊎_elim, arith}
-use Rattle.std.specs.List.{AllByRecursion as All}
+use Rattle.std.specs.List.{AllByRecursion}
 use Rattle.std.proofs.lemmas.Bool.{ltb-false, leb-false, or_parts, and_parts, and_cases, not-false}
 use Rattle.kinds.specs.Kinds.{Kind}
 use Rattle.records.specs.Ordered.{put, before, after}
@@ -22,7 +22,7 @@ use Rattle.model.proofs.Changes.{sound-created, sound-removed}
 use Rattle.model.proofs.Renames.{sound_renamed}
 
 -- where no reason counts, none holds
-pub none_hold : (rs : List Reason) → first_of rs ≡ None → All (λ r. r.1 ≡ false) rs
+pub none_hold : (rs : List Reason) → first_of rs ≡ None → AllByRecursion (λ r. r.1 ≡ false) rs
 none_hold [] e = tt
 none_hold (r ∷ rs) e =
     by_test r.1 (λ h. let z : Some r.0 ≡ None = rw h at e in absurd (let w : ◌≡◌ {A = ℕ} 0 1 = cc in omega arith)) (λ h. (h, none_hold rs (rw h at e)))
@@ -65,7 +65,7 @@ module _ (k : Kind) (l : KeepsLaws k) (count : ℕ) (t : Tree) (s : Sound k coun
       let x = number_at k t f n in
       let folder = folder_some k count t s f (not-false _ free.1.1.1.0) in
       let was = found_as k count t s f n folder.0 (not-false _ free.1.1.1.1.0) in
-      let leaf : All (λ o. child_of x o ≡ false) t.objects =
+      let leaf : AllByRecursion (λ o. child_of x o ≡ false) t.objects =
       ⊎_elim (λ (h : has_folder x t ≡ false). barren k count t s x was.some h) (λ (h : has (child_of x) t ≡ false). none_passes (child_of x) t.objects h) (and_cases _ _ free.1.1.1.1.1.0) in
       sound-removed k l count t s x was.some was.other leaf
 
@@ -129,7 +129,7 @@ module _ (k : Kind) (l : KeepsLaws k) (count : ℕ) where
       go (Some why) e = h
 
   -- and so does every history
-  pub keep_history : (s : State) → SoundState k count s → (bs : List Brought) → All (λ e. SoundState k count e.left) (history k count s bs)
+  pub keep_history : (s : State) → SoundState k count s → (bs : List Brought) → AllByRecursion (λ e. SoundState k count e.left) (history k count s bs)
   keep_history s h [] = tt
   keep_history s h (b ∷ bs) =
       let next = keep_step b.call b.buffer b.allowance s h in (next, keep_history (event k count s b).left next bs)

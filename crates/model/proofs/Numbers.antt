@@ -1,7 +1,7 @@
 -- Objects by their numbers, which fall.
 use Rattle.std.proofs.Common.{◌≡◌, ℕ, ◌<◌, ◌≤◌, Bool, true, false, not, List, [], ◌∷◌, map, length, is_some, Some, filter, sym, refl, ◌∙◌, arith}
 use Rattle.std.specs.Option.{option_map}
-use Rattle.std.specs.List.{AllByRecursion as All}
+use Rattle.std.specs.List.{AllByRecursion}
 use Rattle.std.proofs.lemmas.Bool.{eqb-true, eq-eqb, ne_eqb}
 use Rattle.model.specs.Trees.{Object, numbered, find}
 use Rattle.model.specs.Soundness.{Falling}
@@ -18,17 +18,17 @@ falling_kept test n (o ∷ os) f =
     (λ e. rw e (f.0, falling_kept test o.number os f.1))
     (λ e. rw e (falling_from o.number n (filter test os) (let q = f.0 in omega arith) (falling_kept test o.number os f.1)))
 
-pub falling_below : (n : ℕ) (os : List Object) → Falling n os → All (λ o. o.number < n) os
+pub falling_below : (n : ℕ) (os : List Object) → Falling n os → AllByRecursion (λ o. o.number < n) os
 falling_below n [] f = tt
 falling_below n (o ∷ os) f = (f.0, falling_below n os (falling_from o.number n os (let q = f.0 in omega arith) f.1))
 
 -- each object is found by its number
-pub by_number : (n : ℕ) (os : List Object) → Falling n os → All (λ o. find (numbered o.number) os ≡ Some o) os
+pub by_number : (n : ℕ) (os : List Object) → Falling n os → AllByRecursion (λ o. find (numbered o.number) os ≡ Some o) os
 by_number n [] f = tt
 by_number n (o ∷ os) f =
     (rw (eq-eqb o.number o.number refl), go os (falling_below o.number os f.1) (by_number o.number os f.1))
   where
-    go : (ps : List Object) → All (λ p. p.number < o.number) ps → All (λ p. find (numbered p.number) os ≡ Some p) ps → All (λ p. find (numbered p.number) (o ∷ os) ≡ Some p) ps
+    go : (ps : List Object) → AllByRecursion (λ p. p.number < o.number) ps → AllByRecursion (λ p. find (numbered p.number) os ≡ Some p) ps → AllByRecursion (λ p. find (numbered p.number) (o ∷ os) ≡ Some p) ps
     go [] b h = tt
     go (p ∷ ps) b h = (let q = b.0 in rw (ne_eqb o.number p.number (λ e. omega arith)) h.0, go ps b.1 h.1)
 

@@ -2,7 +2,7 @@
 use Rattle.std.proofs.Common.{◌≡◌, ℕ, ◌<◌, ◌≤◌, true, false, cond, not, ◌&&◌, eqb, ◌⊎◌, List, [], ◌∷◌, map, length, is_some, Some, None, Option, Ordering, unwrap_or, sym, refl, ap, ◌∙◌, subst, inl, inr, ⊎_elim, arith}
 use Rattle.std.specs.Option.{option_map}
 use Rattle.std.specs.Ordering.{is_eq}
-use Rattle.std.specs.List.{AllByRecursion as All}
+use Rattle.std.specs.List.{AllByRecursion}
 use Rattle.std.proofs.ByRecursion.{All-weaker, All-map}
 use Rattle.std.proofs.lemmas.Bool.{eqb-true, eq-eqb, ne_eqb, and_cases}
 use Rattle.kinds.specs.Kinds.{Kind, TotalOrder, turned}
@@ -34,7 +34,7 @@ module _ (x g : ℕ) (m : List ℕ) where
   falling_moved n [] f = tt
   falling_moved n (o ∷ os) f = rw (number-moved o) (f.0, falling_moved o.number os f.1)
 
-  pub all_moved : (P Q : Object → Type 0) → ((o : Object) → P o → Q (moved x g m o)) → (os : List Object) → All P os → All Q (map (moved x g m) os)
+  pub all_moved : (P Q : Object → Type 0) → ((o : Object) → P o → Q (moved x g m o)) → (os : List Object) → AllByRecursion P os → AllByRecursion Q (map (moved x g m) os)
   all_moved P Q h os a = All-map Q (moved x g m) os (All-weaker P _ h os a)
 
   pub find-numbered : (n : ℕ) (os : List Object) → find (numbered n) (map (moved x g m) os) ≡ option_map (moved x g m) (find (numbered n) os)
@@ -93,12 +93,12 @@ module _ (x g : ℕ) (m : List ℕ) where
         (λ (u : eqb g o.parent ≡ false). rw u)))
         (λ (d : numbered x p ≡ false). rw (e, d) h))
 
-    apart-moved : (n : ℕ) (os : List Object) → Falling n os → All Free os → All Child os → Apart k os → Apart k (map (moved x g m) os)
+    apart-moved : (n : ℕ) (os : List Object) → Falling n os → AllByRecursion Free os → AllByRecursion Child os → Apart k os → Apart k (map (moved x g m) os)
     apart-moved n [] f a c h = tt
     apart-moved n (o ∷ os) f a c h =
         (go os (falling_below o.number os f.1) a.1 h.0, apart-moved o.number os f.1 a.1 c.1 h.1)
       where
-        go : (ps : List Object) → All (λ p. p.number < o.number) ps → All Free ps → All (λ p. clash k p o ≡ false) ps → All (λ p. clash k p (moved x g m o) ≡ false) (map (moved x g m) ps)
+        go : (ps : List Object) → AllByRecursion (λ p. p.number < o.number) ps → AllByRecursion Free ps → AllByRecursion (λ p. clash k p o ≡ false) ps → AllByRecursion (λ p. clash k p (moved x g m o) ≡ false) (map (moved x g m) ps)
         go [] b q r = tt
         go (p ∷ ps) b q r = (clash-moved o p b.0 a.0 q.0 c.0 r.0, go ps b.1 q.1 r.1)
 

@@ -1,6 +1,6 @@
 -- What indexes and blocks a tree needs: decided by a test, and no more after a removal.
 use Rattle.std.proofs.Common.{◌≡◌, ℕ, ◌^◌, ◌<◌, ◌≤◌, Bool, List, [], ◌∷◌, map, Decides, sum_by, filter, refl, ◌∙◌, arith}
-use Rattle.std.specs.List.{AllByRecursion as All}
+use Rattle.std.specs.List.{AllByRecursion}
 use Rattle.std.proofs.ByRecursion.{all_kept_by, Decides-by_and}
 use Rattle.std.proofs.lemmas.List.Sums.{sum_by-cons}
 use Rattle.std.proofs.lemmas.Bool.Decides.{Decides-and, Decides-like}
@@ -52,7 +52,7 @@ sum_lines g q (o ∷ os) =
     let less = sum_by-cons g (line_of o) (map line_of (filter q os)) in
     by_test (q o) (λ t. rw t (omega arith)) (λ t. rw t (omega arith))
 
-sums_fewer : (f g : Object → ℕ) (i q : Object → Bool) (os : List Object) → All (λ o. f o ≤ g o) os → sum_by f (filter i (filter q os)) ≤ sum_by g (filter i os)
+sums_fewer : (f g : Object → ℕ) (i q : Object → Bool) (os : List Object) → AllByRecursion (λ o. f o ≤ g o) os → sum_by f (filter i (filter q os)) ≤ sum_by g (filter i os)
 sums_fewer f g i q [] l = omega arith
 sums_fewer f g i q (o ∷ os) l =
     let h = sums_fewer f g i q os l.1 in
@@ -63,12 +63,12 @@ sums_fewer f g i q (o ∷ os) l =
     (λ t. rw t (by_test (i o) (λ u. rw u (omega arith)) (λ u. rw u h)))
     (λ t. rw t (by_test (i o) (λ u. rw u (omega arith)) (λ u. rw u h)))
 
-all_fewer : (P Q : Object → Type 0) (i q : Object → Bool) (os : List Object) → All (λ o. P o → Q o) os → All P (filter i os) → All Q (filter i (filter q os))
+all_fewer : (P Q : Object → Type 0) (i q : Object → Bool) (os : List Object) → AllByRecursion (λ o. P o → Q o) os → AllByRecursion P (filter i os) → AllByRecursion Q (filter i (filter q os))
 all_fewer P Q i q [] h a = tt
 all_fewer P Q i q (o ∷ os) h a =
     by_test (i o)
-    (λ u. let b : All P (o ∷ filter i os) = rw u at a in by_test (q o) (λ t. rw (t, u) (h.0 b.0, all_fewer P Q i q os h.1 b.1)) (λ t. rw t (all_fewer P Q i q os h.1 b.1)))
-    (λ u. let b : All P (filter i os) = rw u at a in by_test (q o) (λ t. rw (t, u) (all_fewer P Q i q os h.1 b)) (λ t. rw t (all_fewer P Q i q os h.1 b)))
+    (λ u. let b : AllByRecursion P (o ∷ filter i os) = rw u at a in by_test (q o) (λ t. rw (t, u) (h.0 b.0, all_fewer P Q i q os h.1 b.1)) (λ t. rw t (all_fewer P Q i q os h.1 b.1)))
+    (λ u. let b : AllByRecursion P (filter i os) = rw u at a in by_test (q o) (λ t. rw (t, u) (all_fewer P Q i q os h.1 b)) (λ t. rw t (all_fewer P Q i q os h.1 b)))
 
 pub apart_kept : (k : Kind) (q : Object → Bool) (os : List Object) → Apart k os → Apart k (filter q os)
 apart_kept k q [] a = tt
@@ -101,8 +101,8 @@ module _ (kind : Kind) (t : TotalOrder kind.lawful kind.order) (next : ℕ) (sma
   abbrev after : Tree
   after = record { next = next; objects = filter q os }
 
-  module _ (lawful : All (λ o. Children kind o.number os) os) where
-    each-folder : (P : Object → Type 0) → ((o : Object) → Children kind o.number os → P o) → (ps : List Object) → All (λ o. Children kind o.number os) ps → All P ps
+  module _ (lawful : AllByRecursion (λ o. Children kind o.number os) os) where
+    each-folder : (P : Object → Type 0) → ((o : Object) → Children kind o.number os → P o) → (ps : List Object) → AllByRecursion (λ o. Children kind o.number os) ps → AllByRecursion P ps
     each-folder P h [] c = tt
     each-folder P h (o ∷ ps) c = (h o c.0, each-folder P h ps c.1)
 

@@ -16,7 +16,7 @@ pub data Call : Type 0 where
   lookup : (folder : ℕ) → (name : List ℕ) → Call
   create : (folder : ℕ) → (name : List ℕ) → (kind : ℕ) → Call
   remove : (folder : ℕ) → (name : List ℕ) → Call
-  rename : (folder : ℕ) → (name : List ℕ) → (target : ℕ) → (newName : List ℕ) → Call
+  rename : (folder : ℕ) → (name : List ℕ) → (target : ℕ) → (new_name : List ℕ) → Call
   tally : Call
   lease : (folder : ℕ) → Call
   -- a lease is the number of its folder

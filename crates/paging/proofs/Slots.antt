@@ -2,7 +2,7 @@
 use Rattle.std.proofs.Common.{◌≡◌, ℕ, ◌+◌, ◌-◌, ◌*◌, ◌/◌, ◌%◌, ◌^◌, ◌<◌, ◌≤◌, Bool, true, false, cond, eqb, leb, ◌⊎◌, List, [], ◌∷◌, ◌++◌, length, get_or, filter, Less, sym, refl, ap, ◌∙◌, subst, inl, inr, ⊎_elim, mul_assoc, add-mul, one-mul, div-mul-le_self, mul-div_cancel, arith}
 use native.Mathlib.Nat.{lt-div-mul-add, div-eq_of_lt-le}
 use Rattle.std.specs.Ordering.{is_lt}
-use Rattle.std.specs.List.{AllByRecursion as All}
+use Rattle.std.specs.List.{AllByRecursion}
 use Rattle.std.proofs.lemmas.Nat.{pow_pos, pow-add, shr-shr, shl-shr, div-add-mod', mod_below, div-mul-add}
 use Rattle.std.proofs.ByRecursion.{All-from_get_or, All-weaker, kept_by_passes}
 use Rattle.std.proofs.lemmas.Bool.{cases_lt, cases_Bool, le-leb, lt-leb, eq-eqb, eqb-true, cond-true, cond-false}
@@ -21,7 +21,7 @@ use Rattle.pages.specs.Pages.{following}
 -- no element is below one before it
 abbrev Climbs : {X : Type 0} → (X → ℕ) → List X → Type 0
 Climbs h [] = Unit {0}
-Climbs h (x ∷ xs) = All (λ y. h x ≤ h y) xs × Climbs h xs
+Climbs h (x ∷ xs) = AllByRecursion (λ y. h x ≤ h y) xs × Climbs h xs
 
 module _ {X : Type 0} (h : X → ℕ) (a b : ℕ) (q : X → Bool) (le : a ≤ b) (yes : (x : X) → a ≤ h x → h x < b → q x ≡ true) (low : (x : X) → h x < a → q x ≡ false) (high : (x : X) → b ≤ h x → q x ≡ false) where
   abbrev up_a : X → Bool

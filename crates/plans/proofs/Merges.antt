@@ -113,11 +113,11 @@ module _ (kind : Kind) (blocks : Blocks) (head : ℕ) (header : List ℕ) (old n
           ∙ ap (λ n. under (by_key kind) k n new ++ under (by_key kind) k (s / 2 ^ k) new) tl ∙ ap (λ n. under (by_key kind) k (2 * P) new ++ under (by_key kind) k n new) sl
           ∙ sym (under_halves (by_key kind) k P new (rising_up kind new (sorted_rising kind new u.sorted)))
 
-      pub joined : (isLow : Bool) → isLow ≡ eqb (s / 2 ^ k % 2) 0 → in_order isLow (records_in bytes) (records_in beside) ≡ under (by_key kind) (suc k) (s / 2 ^ suc k) new
-      joined isLow e = ⊎_elim
-          (λ (y : isLow ≡ true). cond-true isLow _ _ y ∙ joined-low (eqb-true _ _ (sym e ∙ y)))
-          (λ (f : isLow ≡ false). cond-false isLow _ _ f ∙ joined-high (eqb-false _ _ (sym e ∙ f)))
-          (cases_Bool isLow)
+      pub joined : (is_low : Bool) → is_low ≡ eqb (s / 2 ^ k % 2) 0 → in_order is_low (records_in bytes) (records_in beside) ≡ under (by_key kind) (suc k) (s / 2 ^ suc k) new
+      joined is_low e = ⊎_elim
+          (λ (y : is_low ≡ true). cond-true is_low _ _ y ∙ joined-low (eqb-true _ _ (sym e ∙ y)))
+          (λ (f : is_low ≡ false). cond-false is_low _ _ f ∙ joined-high (eqb-false _ _ (sym e ∙ f)))
+          (cases_Bool is_low)
 
       pub named : (x : ℕ) → times x (pointers header (leaves (by_key kind) (suc k) (s / 2 ^ suc k) old)) ≡ cond (eqb x number) 1 0 + times x (pointers header (leaves (by_key kind) k (s / 2 ^ k) old))
       named x =

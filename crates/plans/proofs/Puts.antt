@@ -1,6 +1,6 @@
 -- Put and removal over all records, and over those under a prefix.
 use Rattle.std.proofs.Common.{◌≡◌, ℕ, suc, ◌+◌, ◌<◌, ◌≤◌, Bool, true, false, eqb, ◌≢◌, ◌⊎◌, List, [], ◌∷◌, ◌++◌, length, take, drop, filter, Less, Equal, Greater, sym, refl, ap, ◌∙◌, inl, inr, ⊎_elim, arith, length-append}
-use Rattle.std.specs.List.{insert, remove, AllByRecursion as All}
+use Rattle.std.specs.List.{insert, remove, AllByRecursion}
 use Rattle.std.specs.Ordering.{is_lt, is_eq}
 use Rattle.std.proofs.lemmas.List.Elements.{filter-append}
 use Rattle.std.proofs.ByRecursion.{All-weaker, kept_by_passes}
@@ -18,15 +18,15 @@ use Rattle.shape.specs.Shapes.{under, prefix_of}
 use Rattle.shape.specs.Keyed.{by_key}
 
 module _ (kind : Kind) (o : TotalOrder kind.lawful kind.order) (key : List ℕ) (lk : kind.lawful key ≡ true) where
-  lawful_all : (rs : List (List ℕ)) → Rising kind rs → All (λ r. kind.lawful (key_of r) ≡ true) rs
+  lawful_all : (rs : List (List ℕ)) → Rising kind rs → AllByRecursion (λ r. kind.lawful (key_of r) ≡ true) rs
   lawful_all [] u = tt
   lawful_all (r ∷ rs) u = (u.1, lawful_all rs u.3)
 
-  befores : (rs : List (List ℕ)) → All (λ r. position kind (key_of r) key ≡ Less) (before kind key rs)
+  befores : (rs : List (List ℕ)) → AllByRecursion (λ r. position kind (key_of r) key ≡ Less) (before kind key rs)
   unfolding before
   befores rs = All-weaker (λ r. is_lt (position kind (key_of r) key) ≡ true) (λ r. position kind (key_of r) key ≡ Less) (λ r t. grind arith) _ (kept_by_passes (λ r. is_lt (position kind (key_of r) key)) rs)
 
-  afters : (rs : List (List ℕ)) → All (λ r. position kind key (key_of r) ≡ Less) (after kind key rs)
+  afters : (rs : List (List ℕ)) → AllByRecursion (λ r. position kind key (key_of r) ≡ Less) (after kind key rs)
   unfolding after
   afters rs = All-weaker (λ r. is_lt (position kind key (key_of r)) ≡ true) (λ r. position kind key (key_of r) ≡ Less) (λ r t. grind arith) _ (kept_by_passes (λ r. is_lt (position kind key (key_of r))) rs)
 
@@ -39,11 +39,11 @@ module _ (kind : Kind) (o : TotalOrder kind.lawful kind.order) (key : List ℕ) 
   rising_after rs u = rising_kept kind (λ r. is_lt (position kind key (key_of r))) rs u
 
   -- what is before the key is before what is after it
-  across : (xs ys : List (List ℕ)) → All (λ r. position kind (key_of r) key ≡ Less) xs → All (λ r. kind.lawful (key_of r) ≡ true) xs → All (λ r. position kind key (key_of r) ≡ Less) ys → All (λ r. kind.lawful (key_of r) ≡ true) ys → All (λ x. All (Before kind x) ys) xs
+  across : (xs ys : List (List ℕ)) → AllByRecursion (λ r. position kind (key_of r) key ≡ Less) xs → AllByRecursion (λ r. kind.lawful (key_of r) ≡ true) xs → AllByRecursion (λ r. position kind key (key_of r) ≡ Less) ys → AllByRecursion (λ r. kind.lawful (key_of r) ≡ true) ys → AllByRecursion (λ x. AllByRecursion (Before kind x) ys) xs
   across [] ys a la b lb = tt
   across (x ∷ xs) ys a la b lb = (each ys b lb, across xs ys a.1 la.1 b lb)
     where
-      each : (ys : List (List ℕ)) → All (λ r. position kind key (key_of r) ≡ Less) ys → All (λ r. kind.lawful (key_of r) ≡ true) ys → All (Before kind x) ys
+      each : (ys : List (List ℕ)) → AllByRecursion (λ r. position kind key (key_of r) ≡ Less) ys → AllByRecursion (λ r. kind.lawful (key_of r) ≡ true) ys → AllByRecursion (Before kind x) ys
       each [] b lb = tt
       each (y ∷ ys) b lb = (less_onward (position-total kind o) (key_of x) key (key_of y) la.0 lk lb.0 a.0 (let e = b.0 in grind arith), each ys b.1 lb.1)
 
@@ -78,7 +78,7 @@ module _ (kind : Kind) (o : TotalOrder kind.lawful kind.order) (key : List ℕ) 
     unfolding without under
     without-off s ne =
         let q = λ (r : List ℕ). eqb (prefix_of j (kind.hash (key_of r))) p in
-        let far : All (λ r. position kind (key_of r) key ≢ Equal) (filter q rs)
+        let far : AllByRecursion (λ r. position kind (key_of r) key ≢ Equal) (filter q rs)
         = All-weaker (λ r. q r ≡ true) (λ r. position kind (key_of r) key ≢ Equal) (λ r t z. ne (sym (eqb-true _ _ t) ∙ ap (prefix_of j) (same (key_of r) z))) _ (kept_by_passes q rs) in
         sym (parted kind o key lk (filter q rs) (rising_kept kind q rs (sorted_rising kind rs s)) far)
       where
@@ -98,7 +98,7 @@ module _ (kind : Kind) (o : TotalOrder kind.lawful kind.order) (r : List ℕ) (i
       let next : Rising kind (r ∷ after kind key rs) = (ir, lk, afters kind o key lk rs, b) in
       rising_sorted kind _ (rising_append kind _ _ a next (both _ _ (befores kind o key lk rs) (across kind o key lk _ _ (befores kind o key lk rs) la (afters kind o key lk rs) lb)))
     where
-      both : (xs ys : List (List ℕ)) → All (λ q. position kind (key_of q) (key_of r) ≡ Less) xs → All (λ x. All (Before kind x) ys) xs → All (λ x. All (Before kind x) (r ∷ ys)) xs
+      both : (xs ys : List (List ℕ)) → AllByRecursion (λ q. position kind (key_of q) (key_of r) ≡ Less) xs → AllByRecursion (λ x. AllByRecursion (Before kind x) ys) xs → AllByRecursion (λ x. AllByRecursion (Before kind x) (r ∷ ys)) xs
       both [] ys h g = tt
       both (x ∷ xs) ys h g = ((h.0, g.0), both xs ys h.1 g.1)
 
@@ -159,7 +159,7 @@ module _ (kind : Kind) (o : TotalOrder kind.lawful kind.order) (level : AlikeHas
 abbrev OneOf : Bool → Bool → Bool → Type 0
 OneOf b a c = ((b ≡ true) × (a ≡ false) × (c ≡ false)) ⊎ (((b ≡ false) × (a ≡ true) × (c ≡ false)) ⊎ ((b ≡ false) × (a ≡ false) × (c ≡ true)))
 
-three : {X : Type 0} (b a c : X → Bool) (xs : List X) → All (λ x. OneOf (b x) (a x) (c x)) xs → length (filter b xs) + length (filter a xs) + length (filter c xs) ≡ length xs
+three : {X : Type 0} (b a c : X → Bool) (xs : List X) → AllByRecursion (λ x. OneOf (b x) (a x) (c x)) xs → length (filter b xs) + length (filter a xs) + length (filter c xs) ≡ length xs
 three b a c [] h = refl
 three b a c (x ∷ xs) h =
     let ih = three b a c xs h.1 in

@@ -13,7 +13,7 @@ use Rattle.plans.specs.Planned.{Differ, HeavyAbove, numbers_of}
 
 -- the records of the low half before those of the high half
 abbrev pub in_order : Bool → List (List ℕ) → List (List ℕ) → List (List ℕ)
-in_order isLow half other = cond isLow (half ++ other) (other ++ half)
+in_order is_low half other = cond is_low (half ++ other) (other ++ half)
 
 -- A bucket under a prefix of a slot that leaves k bits holds the new records there. The old records, which are
 -- stored, have that prefix or longer ones for buckets.

@@ -1,6 +1,6 @@
 -- What a test keeps of a list.
 use Rattle.std.proofs.Common.{◌≡◌, ℕ, zero, suc, ◌<◌, ◌≤◌, Bool, true, false, List, [], ◌∷◌, length, get_or, take, drop, filter, sym, refl, ap, ◌∙◌, ⊎_elim, arith}
-use Rattle.std.specs.List.{AllByRecursion as All}
+use Rattle.std.specs.List.{AllByRecursion}
 use Rattle.std.proofs.lemmas.Bool.{cases_Bool, cond-true, cond-false}
 
 module _ {X : Type 0} where
@@ -10,16 +10,16 @@ module _ {X : Type 0} where
   pub kept_no : (p : X → Bool) (x : X) (xs : List X) → p x ≡ false → filter p (x ∷ xs) ≡ filter p xs
   kept_no p x xs t = cond-false (p x) (x ∷ filter p xs) (filter p xs) t
 
-  pub kept_none : (p : X → Bool) (xs : List X) → All (λ x. p x ≡ false) xs → filter p xs ≡ []
+  pub kept_none : (p : X → Bool) (xs : List X) → AllByRecursion (λ x. p x ≡ false) xs → filter p xs ≡ []
   kept_none p [] h = refl
   kept_none p (x ∷ xs) h = kept_no p x xs h.0 ∙ kept_none p xs h.1
 
-  pub kept_all : (p : X → Bool) (xs : List X) → All (λ x. p x ≡ true) xs → filter p xs ≡ xs
+  pub kept_all : (p : X → Bool) (xs : List X) → AllByRecursion (λ x. p x ≡ true) xs → filter p xs ≡ xs
   kept_all p [] h = refl
   kept_all p (x ∷ xs) h = kept_yes p x xs h.0 ∙ ap (λ ys. x ∷ ys) (kept_all p xs h.1)
 
   -- two tests that agree on each element
-  pub kept_same : (p q : X → Bool) (xs : List X) → All (λ x. p x ≡ q x) xs → filter p xs ≡ filter q xs
+  pub kept_same : (p q : X → Bool) (xs : List X) → AllByRecursion (λ x. p x ≡ q x) xs → filter p xs ≡ filter q xs
   kept_same p q [] h = refl
   kept_same p q (x ∷ xs) h = ⊎_elim
       (λ (t : p x ≡ true). kept_yes p x xs t ∙ ap (λ ys. x ∷ ys) (kept_same p q xs h.1) ∙ sym (kept_yes q x xs (sym h.0 ∙ t)))
@@ -42,12 +42,12 @@ module _ {X : Type 0} where
       (cases_Bool (q x)))
       (cases_Bool (p x))
 
-  pub all-every : (P : X → Type 0) → ((x : X) → P x) → (xs : List X) → All P xs
+  pub all-every : (P : X → Type 0) → ((x : X) → P x) → (xs : List X) → AllByRecursion P xs
   all-every P f [] = tt
   all-every P f (x ∷ xs) = (f x, all-every P f xs)
 
   -- a test that passes no element but those that a second one passes
-  pub kept_within : (p q : X → Bool) (xs : List X) → All (λ x. p x ≡ true → q x ≡ true) xs → filter p (filter q xs) ≡ filter p xs
+  pub kept_within : (p q : X → Bool) (xs : List X) → AllByRecursion (λ x. p x ≡ true → q x ≡ true) xs → filter p (filter q xs) ≡ filter p xs
   kept_within p q [] h = refl
   kept_within p q (x ∷ xs) h =
       let ih = kept_within p q xs h.1 in

@@ -1,6 +1,6 @@
 -- Sorted records from the first on, and what put and removal come to at a place among them.
 use Rattle.std.proofs.Common.{◌≡◌, ℕ, zero, suc, ◌<◌, ◌≤◌, Bool, true, false, ◌≢◌, List, [], ◌∷◌, ◌++◌, length, get_or, take, drop, filter, Less, Equal, Greater, sym, refl, ap, ◌∙◌, subst, ⊎_elim, arith}
-use Rattle.std.specs.List.{AllByRecursion as All}
+use Rattle.std.specs.List.{AllByRecursion}
 use Rattle.std.specs.Ordering.{is_lt}
 use Rattle.std.proofs.ByRecursion.{All-append, All-get_or, All-from_get_or, all_kept_by}
 use Rattle.std.proofs.lemmas.Bool.{cases_lt, cases_eq, cases_Bool}
@@ -18,7 +18,7 @@ Before kind r q = position kind (key_of r) (key_of q) ≡ Less
 -- each is a record with a lawful key, and before all that follow
 abbrev pub Rising : Kind → List (List ℕ) → Type 0
 Rising kind [] = Unit {0}
-Rising kind (r ∷ rs) = (is_record r ≡ true) × (kind.lawful (key_of r) ≡ true) × All (Before kind r) rs × Rising kind rs
+Rising kind (r ∷ rs) = (is_record r ≡ true) × (kind.lawful (key_of r) ≡ true) × AllByRecursion (Before kind r) rs × Rising kind rs
 
 module _ (kind : Kind) where
   pub rising_sorted : (rs : List (List ℕ)) → Rising kind rs → Sorted kind rs
@@ -65,7 +65,7 @@ module _ (kind : Kind) where
   pub sorted_kept : (p : List ℕ → Bool) (rs : List (List ℕ)) → Sorted kind rs → Sorted kind (filter p rs)
   sorted_kept p rs s = rising_sorted (filter p rs) (rising_kept p rs (sorted_rising rs s))
 
-  pub rising_append : (xs ys : List (List ℕ)) → Rising kind xs → Rising kind ys → All (λ x. All (Before kind x) ys) xs → Rising kind (xs ++ ys)
+  pub rising_append : (xs ys : List (List ℕ)) → Rising kind xs → Rising kind ys → AllByRecursion (λ x. AllByRecursion (Before kind x) ys) xs → Rising kind (xs ++ ys)
   rising_append [] ys u v h = v
   rising_append (x ∷ xs) ys u v h = (u.0, u.1, All-append (Before kind x) xs ys u.2 h.0, rising_append xs ys u.3 v h.1)
 
@@ -81,7 +81,7 @@ module _ (kind : Kind) (o : TotalOrder kind.lawful kind.order) (key : List ℕ) 
   not_after r lr e = let m = (position-total kind o).mirrored (key_of r) key lr lk in grind arith
 
   -- records with no alike key are those before it and those after it
-  pub parted : (rs : List (List ℕ)) → Rising kind rs → All (λ r. position kind (key_of r) key ≢ Equal) rs → rs ≡ before kind key rs ++ after kind key rs
+  pub parted : (rs : List (List ℕ)) → Rising kind rs → AllByRecursion (λ r. position kind (key_of r) key ≢ Equal) rs → rs ≡ before kind key rs ++ after kind key rs
   unfolding before after
   parted [] u none = refl
   parted (r ∷ rs) u none =
@@ -96,12 +96,12 @@ module _ (kind : Kind) (o : TotalOrder kind.lawful kind.order) (key : List ℕ) 
       let n0 = none.0 in
       let g : position kind (key_of r) key ≡ Greater = grind arith in
       let yes : a r ≡ true = after_lt r u.1 g in
-      let later : All (λ q. p q ≡ false) rs = past r rs u.1 u.3 u.2 (grind arith) in
+      let later : AllByRecursion (λ q. p q ≡ false) rs = past r rs u.1 u.3 u.2 (grind arith) in
       let nobody : filter p rs ≡ [] = kept_none p rs later in
       ap (λ ys. r ∷ ys) (ih ∙ ap (λ ys. ys ++ filter a rs) nobody) ∙ sym (kept_yes a r rs yes) ∙ ap (λ ys. ys ++ filter a (r ∷ rs)) (sym (kept_no p r rs f ∙ nobody)))
       (cases_Bool (p r))
     where
-      past : (r : List ℕ) (qs : List (List ℕ)) → kind.lawful (key_of r) ≡ true → Rising kind qs → All (Before kind r) qs → position kind (key_of r) key ≢ Less → All (λ q. is_lt (position kind (key_of q) key) ≡ false) qs
+      past : (r : List ℕ) (qs : List (List ℕ)) → kind.lawful (key_of r) ≡ true → Rising kind qs → AllByRecursion (Before kind r) qs → position kind (key_of r) key ≢ Less → AllByRecursion (λ q. is_lt (position kind (key_of q) key) ≡ false) qs
       past r [] lr v h ne = tt
       past r (q ∷ qs) lr v h ne =
           let on = less_onward (position-total kind o) (key_of r) (key_of q) key lr v.1 lk h.0 in

@@ -1,6 +1,6 @@
 -- Records in rising hash: those under a prefix are those of its low half, then those of its high half.
 use Rattle.std.proofs.Common.{◌≡◌, ℕ, zero, suc, ◌+◌, ◌*◌, ◌/◌, ◌^◌, ◌<◌, ◌≤◌, Bool, true, false, eqb, List, [], ◌∷◌, ◌++◌, length, get_or, take, drop, filter, sym, refl, ap, ◌∙◌, subst, ⊎_elim, arith}
-use Rattle.std.specs.List.{AllByRecursion as All}
+use Rattle.std.specs.List.{AllByRecursion}
 use Rattle.std.proofs.lemmas.Nat.{le-div, pow_pos, div-add-mod'}
 use Rattle.std.proofs.ByRecursion.{All-get_or, All-weaker}
 use Rattle.std.proofs.lemmas.Bool.{cases_eq, cases_lt, cases_Bool, both_ways, eqb-true, eqb-false, eq-eqb, ne_eqb}
@@ -20,7 +20,7 @@ module _ {X : Type 0} (m : Measure X) where
   -- in rising hash
   abbrev pub Up : List X → Type 0
   Up [] = Unit {0}
-  Up (x ∷ xs) = All (λ y. m.hash x ≤ m.hash y) xs × Up xs
+  Up (x ∷ xs) = AllByRecursion (λ y. m.hash x ≤ m.hash y) xs × Up xs
 
   pub up_get_or : (xs : List X) (d : X) → Up xs → (i j : ℕ) → i < j → j < length xs → m.hash (get_or xs i d) ≤ m.hash (get_or xs j d)
   up_get_or [] d u i j l b = absurd (omega arith)
@@ -61,7 +61,7 @@ module _ {X : Type 0} (m : Measure X) where
       rs u
 
   -- where the low half ends: n records are in it, and the next, if any, is not
-  module _ (k p : ℕ) (rs : List X) (d : X) (u : Up rs) (all : All (λ r. prefix_of (suc k) (m.hash r) ≡ p) rs) (n : ℕ) (within : n ≤ length rs)
+  module _ (k p : ℕ) (rs : List X) (d : X) (u : Up rs) (all : AllByRecursion (λ r. prefix_of (suc k) (m.hash r) ≡ p) rs) (n : ℕ) (within : n ≤ length rs)
       (low : (i : ℕ) → i < n → prefix_of k (m.hash (get_or rs i d)) ≡ 2 * p) (next : n < length rs → prefix_of k (m.hash (get_or rs n d)) ≡ 2 * p → ⊥) where
     high : (i : ℕ) → n ≤ i → i < length rs → prefix_of k (m.hash (get_or rs i d)) ≡ 2 * p + 1
     high i l b =

@@ -1,6 +1,6 @@
 -- The buckets as a list: which of them a slot has, how many there are, and what a change leaves of them.
 use Rattle.std.proofs.Common.{◌≡◌, ℕ, zero, suc, ◌+◌, ◌-◌, ◌*◌, ◌/◌, ◌^◌, ◌<◌, ◌≤◌, true, false, cond, eqb, ◌⊎◌, List, [], ◌∷◌, ◌++◌, length, get_or, sum_by, sym, refl, ap, ◌∙◌, subst, inl, inr, ⊎_elim, append_assoc, add-mul, arith, length-append}
-use Rattle.std.specs.List.{AllByRecursion as All}
+use Rattle.std.specs.List.{AllByRecursion}
 use Rattle.std.proofs.lemmas.Nat.{pow_pos, le-div, div_below}
 use Rattle.std.proofs.ByRecursion.{All-append, All-from_get_or, All-weaker}
 use Rattle.std.proofs.lemmas.List.{append-nil, get_or_append_left, get_or-append-add}
@@ -154,7 +154,7 @@ module _ {X : Type 0} (m : Measure X) where
   pub first_is : (k p : ℕ) (rs : List X) (i : ℕ) (d : Leaf) → i < length (leaves m k p rs) → Of k p rs i (first_slot (get_or (leaves m k p rs) i d))
   first_is k p rs i d l = let x = get_or (leaves m k p rs) i d in place_is k p rs i (first_slot x) d l (first_within x.room x.prefix)
 
-  pub firsts_inside : (k p : ℕ) (rs : List X) → All (λ x. first_slot x / 2 ^ k ≡ p) (leaves m k p rs)
+  pub firsts_inside : (k p : ℕ) (rs : List X) → AllByRecursion (λ x. first_slot x / 2 ^ k ≡ p) (leaves m k p rs)
   firsts_inside k p rs = All-from_get_or (λ x. first_slot x / 2 ^ k ≡ p) (leaves m k p rs) (leaf 0 0) (λ i l. (first_is k p rs i (leaf 0 0) l).0)
 
   -- what two halves weigh
@@ -214,8 +214,8 @@ module _ {X : Type 0} (m : Measure X) where
       pub right : List Leaf
       pub old : leaves m k (t / 2 ^ k) rs ≡ left ++ (leaves m K (t / 2 ^ K) rs ++ right)
       pub new : leaves m k (t / 2 ^ k) rs' ≡ left ++ (leaves m K (t / 2 ^ K) rs' ++ right)
-      pub left-off : All (λ x. first_slot x / 2 ^ K ≡ t / 2 ^ K → ⊥) left
-      pub right-off : All (λ x. first_slot x / 2 ^ K ≡ t / 2 ^ K → ⊥) right
+      pub left-off : AllByRecursion (λ x. first_slot x / 2 ^ K ≡ t / 2 ^ K → ⊥) left
+      pub right-off : AllByRecursion (λ x. first_slot x / 2 ^ K ≡ t / 2 ^ K → ⊥) right
 
     here : (n : ℕ) → Around n n
     here n = record { left = []; right = []; old = sym (append-nil _); new = sym (append-nil _); left-off = tt; right-off = tt }
@@ -223,7 +223,7 @@ module _ {X : Type 0} (m : Measure X) where
     module _ (K k : ℕ) (le : K ≤ k) (a : Around K k)
         (old_heavy : is_light m (suc k) (t / 2 ^ suc k) rs ≡ false) (new-heavy : is_light m (suc k) (t / 2 ^ suc k) rs' ≡ false) where
       -- the buckets of the half without t
-      beside : (q : ℕ) → (q ≡ t / 2 ^ k → ⊥) → (xs : List X) → All (λ x. first_slot x / 2 ^ K ≡ t / 2 ^ K → ⊥) (leaves m k q xs)
+      beside : (q : ℕ) → (q ≡ t / 2 ^ k → ⊥) → (xs : List X) → AllByRecursion (λ x. first_slot x / 2 ^ K ≡ t / 2 ^ K → ⊥) (leaves m k q xs)
       beside q ne xs =
           All-weaker (λ x. first_slot x / 2 ^ k ≡ q) (λ x. first_slot x / 2 ^ K ≡ t / 2 ^ K → ⊥)
           (λ x e z. ne (sym e ∙ prefix_up K k (first_slot x) t le z)) (leaves m k q xs) (firsts_inside k q xs)
