@@ -1,14 +1,7 @@
--- What follows from a kind's laws for positions, and what a comparison with `Equal` tells.
-use Rattle.std.proofs.Common.{◌≡◌, ◌==◌, refl, ℕ, Bool, true, ◌≢◌, List, Ordering, Less, Equal, Greater, arith}
-use Rattle.std.specs.Ordering.{ordering_index}
+-- What follows from a kind's laws for positions.
+use Rattle.std.proofs.Common.{◌≡◌, ℕ, Bool, true, ◌≢◌, List, Ordering, Less, Equal, Greater, arith}
 use Rattle.std.proofs.lemmas.Bool.Decides.{nat_tests}
 use Rattle.kinds.specs.Kinds.{Kind, TotalOrder, AlikeHash, position}
-
--- `o == Ordering::Equal` tests the index of o
-pub equal_from_index : (o : Ordering) → (ordering_index o == 1) ≡ true → o ≡ Equal
-equal_from_index Less e = grind arith
-equal_from_index Equal e = refl
-equal_from_index Greater e = grind arith
 
 pub less_onward : {lawful : List ℕ → Bool} {order : List ℕ → List ℕ → Ordering} → TotalOrder lawful order → (a b c : List ℕ) → lawful a ≡ true → lawful b ≡ true → lawful c ≡ true → order a b ≡ Less → order b c ≢ Greater → order a c ≡ Less
 less_onward o a b c la lb lc p q =

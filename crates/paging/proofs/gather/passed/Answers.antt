@@ -3,7 +3,9 @@ use Rattle.std.proofs.lemmas.Bool.{or_cases, both_ways, cond-false}
 use Rattle.std.proofs.lemmas.Bool.Decides.{nat_tests}
 use Rattle.kinds.specs.Kinds.{Kind, position}
 use Rattle.std.specs.Ordering.{ordering_index}
-use Rattle.kinds.proofs.Positions.{alike-position, equal_from_index}
+use Rattle.std.specs.Cmp.{Equal-is}
+use Rattle.std.proofs.lemmas.Cmp.{is_eq_index}
+use Rattle.kinds.proofs.Positions.{alike-position}
 use Rattle.records.specs.Items.{records_in}
 use Rattle.records.specs.Ordered.{after}
 use Rattle.records.specs.Searches.{key_at}
@@ -44,7 +46,7 @@ returns-then-eq g c = λ s b.
     let some : eqb (length key) 0 ≡ false = sym c.is_empty.ensures ∙ c.if-is_empty.false in
     let lk = key_lawful kind key some b in
     let told = c.in-Some.ensures in
-    let alike : kind.order (key_at rs n) key ≡ Equal = sym (c.compare.ensures ∙ ap (λ k. kind.order k key) told.2) ∙ equal_from_index _ (sym c.eq.ensures ∙ c.if-eq.true) in
+    let alike : kind.order (key_at rs n) key ≡ Equal = sym (c.compare.ensures ∙ ap (λ k. kind.order k key) told.2) ∙ (Equal-is _).0 (is_eq_index _ ∙ sym c.eq.ensures ∙ c.if-eq.true) in
     let at = alike-position kind g.met.K.KeyKind.level (key_at rs n) key (s.keyed n told.0) lk alike in
     let found = after-found kind o key lk rs s n c.place_for-place.ensures.within (c.place_for-place.ensures.place s lk) told.0 at in
     let next = add-one n in

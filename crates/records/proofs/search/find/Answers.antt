@@ -1,6 +1,7 @@
 use Rattle.std.proofs.Common.{◌≡◌, sym, ap, ◌∙◌, arith}
 use Rattle.std.specs.Ordering.{ordering_index}
-use Rattle.kinds.proofs.Positions.{equal_from_index}
+use Rattle.std.specs.Cmp.{Equal-is}
+use Rattle.std.proofs.lemmas.Cmp.{is_eq_index}
 use Rattle.records.specs.Items.{records_in}
 use Rattle.records.specs.Searches.{key_at}
 use Rattle.records.proofs.Halved.{none_alike}
@@ -37,4 +38,4 @@ returns-then-eq g c =
     let place = c.place_for-place.result in
     let told = c.in_ok-found.ensures in
     let compared : c.compare.result ≡ kind.order (key_at rs place) key = c.compare.ensures ∙ ap (λ k. kind.order k key) told.2 in
-    (told.0, told.1, sym c.is_lawful.ensures ∙ c.if-not-is_lawful.false, sym compared ∙ equal_from_index _ (sym c.eq.ensures ∙ c.if-eq.true))
+    (told.0, told.1, sym c.is_lawful.ensures ∙ c.if-not-is_lawful.false, sym compared ∙ (Equal-is _).0 (is_eq_index _ ∙ sym c.eq.ensures ∙ c.if-eq.true))
