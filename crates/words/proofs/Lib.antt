@@ -1,3 +1,2 @@
-mod Tails
 pub mod Overwritten
 pub mod Told
