@@ -4,7 +4,7 @@ ghost use Rattle.append_log.specs.Lawful.{lent_laws};
 
 use crate::head::Head;
 use crate::records;
-use device::Device;
+use device::{Device, Refused};
 use std::mem;
 
 // A log in bytes that are lent, with what their check found.
@@ -50,12 +50,12 @@ impl Device for Log<'_> {
         records::room(self.bytes.len(), self.head)
     }
 
-    fn read(&self, block: u32, buffer: &mut [u8]) -> Result<(), ()> {
+    fn read(&self, block: u32, buffer: &mut [u8]) -> Result<(), Refused> {
         records::read(self.bytes, self.head, block, buffer)
     }
 
     // The log is taken apart while its bytes change, since a head beside them has to fit them.
-    fn write(&mut self, block: u32, source: &[u8]) -> Result<(), ()>
+    fn write(&mut self, block: u32, source: &[u8]) -> Result<(), Refused>
         ensures served { is_ok result ≡ takes_write self.old.bytes.now block source.now }
         ensures sets { log_blocks self.new.bytes.now ≡ written_blocks (is_ok result) self.old.bytes.now block source.now }
         ensures keeps { (self.old.bytes.ghost_name ≡ self.new.bytes.ghost_name) × OnlyAppends self.old.bytes.now self.new.bytes.now }
@@ -70,9 +70,9 @@ impl Device for Log<'_> {
                 *self = Log { bytes, head };
                 Ok(())
             }
-            Err(()) => {
+            Err(Refused) => {
                 *self = Log { bytes, head };
-                Err(())
+                Err(Refused)
             }
         }
     }

@@ -4,9 +4,14 @@ ghost use Rattle.append_log.specs.Lawful.{owned_laws};
 
 use crate::head::Head;
 use crate::records;
-use device::Device;
+use device::{Device, Refused};
 
-fn append(bytes: &mut Vec<u8>, head: Option<Head>, block: u32, source: &[u8]) -> Result<Head, ()>
+fn append(
+    bytes: &mut Vec<u8>,
+    head: Option<Head>,
+    block: u32,
+    source: &[u8],
+) -> Result<Head, Refused>
     requires { head ≡ head_of bytes.old.items }
     ensures ends { AppendEnds bytes.old.items block source.now bytes.new.items result }
     ensures appends { AppendsOne bytes.old.items block source.now bytes.new.items result }
@@ -65,11 +70,11 @@ impl Device for LogBuf {
         records::room(self.bytes.len(), self.head)
     }
 
-    fn read(&self, block: u32, buffer: &mut [u8]) -> Result<(), ()> {
+    fn read(&self, block: u32, buffer: &mut [u8]) -> Result<(), Refused> {
         records::read(&self.bytes, self.head, block, buffer)
     }
 
-    fn write(&mut self, block: u32, source: &[u8]) -> Result<(), ()>
+    fn write(&mut self, block: u32, source: &[u8]) -> Result<(), Refused>
         ensures served { is_ok result ≡ takes_write self.old.bytes.items block source.now }
         ensures sets { log_blocks self.new.bytes.items ≡ written_blocks (is_ok result) self.old.bytes.items block source.now }
         ensures keeps { OnlyAppends self.old.bytes.items self.new.bytes.items }

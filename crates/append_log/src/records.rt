@@ -4,7 +4,7 @@ ghost use Rattle.device.specs.Access.{readable};
 ghost use Rattle.append_log.specs.Records.{start, number, body, head_of, count_of, room_of, latest, log_blocks, Appended, AppendEnds, AppendsOne};
 
 use crate::head::Head;
-use device::BLOCK_SIZE;
+use device::{BLOCK_SIZE, Refused};
 use words::{u16_at, u32_at};
 
 const HEAD_SIZE: usize = 6;
@@ -86,16 +86,16 @@ pub(crate) fn read(
     head: Option<Head>,
     block: u32,
     buffer: &mut [u8],
-) -> Result<(), ()>
+) -> Result<(), Refused>
     requires { head ≡ head_of bytes.now }
     ensures served { is_ok result ≡ readable (log_blocks bytes.now) block buffer.old }
     ensures after { buffer.new ≡ (if is_ok result then slice_index_or (log_blocks bytes.now) block [] else buffer.old) }
 {
     let Some(Head { used, count }) = head else {
-        return Err(());
+        return Err(Refused);
     };
     if block >= u32::from(count) || buffer.len() != BLOCK_SIZE {
-        return Err(());
+        return Err(Refused);
     }
     match newest(bytes, used, block) {
         Some(k) => {
@@ -126,17 +126,17 @@ pub(crate) fn append(
     head: Option<Head>,
     block: u32,
     source: &[u8],
-) -> Result<Head, ()>
+) -> Result<Head, Refused>
     requires { head ≡ head_of bytes.old }
     ensures ends { AppendEnds bytes.old block source.now bytes.new result }
     ensures appends { AppendsOne bytes.old block source.now bytes.new result }
 {
     let left = room(bytes.len(), head);
     let Some(Head { used, count }) = head else {
-        return Err(());
+        return Err(Refused);
     };
     if block >= u32::from(count) || source.len() != BLOCK_SIZE || left == 0 {
-        return Err(());
+        return Err(Refused);
     }
     put_record(bytes, used, block as u16, source);
     Ok(Head {

@@ -5,6 +5,10 @@ ghost use Rattle.std.specs.Prelude.{◌≡◌, ℕ, ◌+◌, ◌≤◌, List, []
 ghost use Rattle.device.specs.Access.{readable, writable};
 ghost use Rattle.device.specs.Laws.{Laws};
 
+mod refused;
+
+pub use refused::Refused;
+
 // The bytes of a block.
 pub const BLOCK_SIZE: usize = 512;
 
@@ -27,12 +31,12 @@ pub trait Device {
         ensures { result ≡ allowed self.now };
 
     // Copies a block into `buffer`; a refusal leaves the buffer.
-    fn read(&self, block: u32, buffer: &mut [u8]) -> Result<(), ()>
+    fn read(&self, block: u32, buffer: &mut [u8]) -> Result<(), Refused>
         ensures served { is_ok result ≡ readable (contents self.now) block buffer.old }
         ensures after { buffer.new ≡ (if is_ok result then slice_index_or (contents self.now) block [] else buffer.old) };
 
     // Sets a block to `source`; a refusal changes nothing.
-    fn write(&mut self, block: u32, source: &[u8]) -> Result<(), ()>
+    fn write(&mut self, block: u32, source: &[u8]) -> Result<(), Refused>
         ensures served { is_ok result ≡ writable (contents self.old) block source.now (allowed self.old) }
         ensures sets { contents self.new ≡ (if is_ok result then slice_set (contents self.old) block source.now else contents self.old) }
         ensures keeps { kept self.old self.new }

@@ -1,5 +1,5 @@
 use append_log::{Head, Log};
-use device::Device;
+use device::{Device, Refused};
 
 #[test]
 fn no_bytes_and_a_short_head_are_no_log(rt: HostRuntime) {
@@ -21,7 +21,7 @@ fn a_head_alone_is_a_log_of_zeros_without_room(rt: HostRuntime) {
     let mut buffer = [9; 512];
     assert_eq!(rt; log.read(2, &mut buffer), Ok(()));
     assert_eq!(rt; buffer[0], 0);
-    assert_eq!(rt; log.write(2, &[1; 512]), Err(()));
+    assert_eq!(rt; log.write(2, &[1; 512]), Err(Refused));
 }
 
 #[test]
@@ -52,7 +52,7 @@ fn the_newest_record_counts_until_the_log_is_full(rt: HostRuntime) {
     assert_eq!(rt; log.write(3, &[1; 512]), Ok(()));
     assert_eq!(rt; log.write(3, &[2; 512]), Ok(()));
     assert_eq!(rt; log.allowance(), 0);
-    assert_eq!(rt; log.write(3, &[3; 512]), Err(()));
+    assert_eq!(rt; log.write(3, &[3; 512]), Err(Refused));
     let mut buffer = [0; 512];
     assert_eq!(rt; log.read(3, &mut buffer), Ok(()));
     assert_eq!(rt; buffer[0], 2);

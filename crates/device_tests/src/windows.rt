@@ -1,5 +1,5 @@
 use append_log::LogBuf;
-use device::Device;
+use device::{Device, Refused};
 use image::Image;
 use std::test::Fail;
 use window::{Span, Window, WindowMut};
@@ -11,7 +11,7 @@ fn a_window_past_the_end_tells_no_blocks(rt: HostRuntime) {
     let past = WindowMut::new(&mut image, Span { start: 2, count: 3 });
     assert_eq!(rt; past.count(), 0);
     let mut buffer = [9; 512];
-    assert_eq!(rt; past.read(0, &mut buffer), Err(()));
+    assert_eq!(rt; past.read(0, &mut buffer), Err(Refused));
     assert_eq!(rt; buffer[0], 9);
 }
 
@@ -23,7 +23,7 @@ fn a_window_at_the_end_writes_only_inside(rt: HostRuntime) {
         let mut window = WindowMut::new(&mut image, Span { start: 2, count: 2 });
         assert_eq!(rt; window.count(), 2);
         assert_eq!(rt; window.write(1, &[5; 512]), Ok(()));
-        assert_eq!(rt; window.write(2, &[5; 512]), Err(()));
+        assert_eq!(rt; window.write(2, &[5; 512]), Err(Refused));
     }
     assert_eq!(rt;
         [bytes[0], bytes[512], bytes[1024], bytes[1535], bytes[1536]],

@@ -3,7 +3,7 @@ ghost use Rattle.image.specs.Blocks.{image_blocks, SameBeyond};
 ghost use Rattle.image.specs.Lawful.{lent_laws};
 
 use crate::slices;
-use device::Device;
+use device::{Device, Refused};
 
 // An image in bytes that are lent.
 #[derive(Drop)]
@@ -37,11 +37,11 @@ impl Device for Image<'_> {
         u32::MAX
     }
 
-    fn read(&self, block: u32, buffer: &mut [u8]) -> Result<(), ()> {
+    fn read(&self, block: u32, buffer: &mut [u8]) -> Result<(), Refused> {
         slices::read(self.bytes, block, buffer)
     }
 
-    fn write(&mut self, block: u32, source: &[u8]) -> Result<(), ()> {
+    fn write(&mut self, block: u32, source: &[u8]) -> Result<(), Refused> {
         slices::write(self.bytes, block, source)
     }
 }

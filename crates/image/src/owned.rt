@@ -3,7 +3,7 @@ ghost use Rattle.image.specs.Blocks.{image_blocks, SameBeyond};
 ghost use Rattle.image.specs.Lawful.{owned_laws};
 
 use crate::slices;
-use device::Device;
+use device::{Device, Refused};
 
 // An image in bytes of its own.
 #[derive(Drop)]
@@ -44,11 +44,11 @@ impl Device for ImageBuf {
         u32::MAX
     }
 
-    fn read(&self, block: u32, buffer: &mut [u8]) -> Result<(), ()> {
+    fn read(&self, block: u32, buffer: &mut [u8]) -> Result<(), Refused> {
         slices::read(&self.bytes, block, buffer)
     }
 
-    fn write(&mut self, block: u32, source: &[u8]) -> Result<(), ()> {
+    fn write(&mut self, block: u32, source: &[u8]) -> Result<(), Refused> {
         slices::write(&mut self.bytes, block, source)
     }
 }

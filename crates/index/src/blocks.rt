@@ -14,7 +14,7 @@ pub fn read_block<D: Device>(device: &D, number: u16) -> Result<[u8; 512], Fault
     let mut bytes = [0; BLOCK_SIZE];
     match device.read(u32::from(number), &mut bytes) {
         Ok(()) => Ok(bytes),
-        Err(()) => Err(Fault::Broken),
+        Err(_) => Err(Fault::Broken),
     }
 }
 

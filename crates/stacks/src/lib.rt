@@ -7,7 +7,7 @@ ghost use Rattle.append_log.specs.Records.{log_blocks, log_room, OnlyAppends};
 ghost use Rattle.window.specs.View.{view};
 
 use append_log::Log;
-use device::Device;
+use device::{Device, Refused};
 use window::{Span, WindowMut};
 
 // Writes a block of a window over a device that is lent for this call.
@@ -16,7 +16,7 @@ pub fn write_within<D: Device>(
     span: Span,
     block: u32,
     source: &[u8],
-) -> Result<(), ()>
+) -> Result<(), Refused>
     ensures served { is_ok result ≡ writable (view (D.Device.contents device.old) span) block source.now (D.Device.allowed device.old) }
     ensures sets { D.Device.contents device.new ≡ (if is_ok result then slice_set (D.Device.contents device.old) (span.start + block) source.now else D.Device.contents device.old) }
     ensures keeps { D.Device.kept device.old device.new }
@@ -34,7 +34,7 @@ pub fn write_within_both<D: Device>(
     inner: Span,
     block: u32,
     source: &[u8],
-) -> Result<(), ()>
+) -> Result<(), Refused>
     ensures served { is_ok result ≡ writable (view (view (D.Device.contents device.old) outer) inner) block source.now (D.Device.allowed device.old) }
     ensures sets { D.Device.contents device.new ≡ (if is_ok result then slice_set (D.Device.contents device.old) (outer.start + (inner.start + block)) source.now else D.Device.contents device.old) }
     ensures keeps { D.Device.kept device.old device.new }
@@ -46,7 +46,7 @@ pub fn write_within_both<D: Device>(
 }
 
 // Writes a block of a window over a log in the caller's bytes.
-pub fn append_within(bytes: &mut [u8], span: Span, block: u32, source: &[u8]) -> Result<(), ()>
+pub fn append_within(bytes: &mut [u8], span: Span, block: u32, source: &[u8]) -> Result<(), Refused>
     ensures served { is_ok result ≡ writable (view (log_blocks bytes.old) span) block source.now (log_room bytes.old) }
     ensures sets { log_blocks bytes.new ≡ (if is_ok result then slice_set (log_blocks bytes.old) (span.start + block) source.now else log_blocks bytes.old) }
     ensures keeps { OnlyAppends bytes.old bytes.new }

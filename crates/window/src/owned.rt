@@ -3,7 +3,7 @@ ghost use Rattle.window.specs.View.{view, SameOutside};
 ghost use Rattle.window.specs.Lawful.{owned_laws};
 
 use crate::span::Span;
-use device::Device;
+use device::{Device, Refused};
 
 // A window over a device of its own.
 #[derive(Drop)]
@@ -46,11 +46,11 @@ impl<D: Device> Device for Window<D> {
         self.below.allowance()
     }
 
-    fn read(&self, block: u32, buffer: &mut [u8]) -> Result<(), ()> {
+    fn read(&self, block: u32, buffer: &mut [u8]) -> Result<(), Refused> {
         self.span.read(&self.below, block, buffer)
     }
 
-    fn write(&mut self, block: u32, source: &[u8]) -> Result<(), ()> {
+    fn write(&mut self, block: u32, source: &[u8]) -> Result<(), Refused> {
         self.span.write(&mut self.below, block, source)
     }
 }

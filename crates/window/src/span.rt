@@ -3,7 +3,7 @@ ghost use Rattle.std.specs.Prelude.{◌≡◌, ◌+◌, ◌≤◌, [], length, i
 ghost use Rattle.device.specs.Access.{readable, writable};
 ghost use Rattle.window.specs.View.{view, SameOutside};
 
-use device::Device;
+use device::{Device, Refused};
 
 // Some blocks after one another.
 #[derive(Clone, Copy, Debug, PartialEq, Eq)]
@@ -25,17 +25,27 @@ impl Span {
         }
     }
 
-    pub(crate) fn read<D: Device>(self, below: &D, block: u32, buffer: &mut [u8]) -> Result<(), ()>
+    pub(crate) fn read<D: Device>(
+        self,
+        below: &D,
+        block: u32,
+        buffer: &mut [u8],
+    ) -> Result<(), Refused>
         ensures served { is_ok result ≡ readable (view (D.Device.contents below.now) self) block buffer.old }
         ensures after { buffer.new ≡ (if is_ok result then slice_index_or (view (D.Device.contents below.now) self) block [] else buffer.old) }
     {
         if block >= self.count_over(below) {
-            return Err(());
+            return Err(Refused);
         }
         below.read(self.start + block, buffer)
     }
 
-    pub(crate) fn write<D: Device>(self, below: &mut D, block: u32, source: &[u8]) -> Result<(), ()>
+    pub(crate) fn write<D: Device>(
+        self,
+        below: &mut D,
+        block: u32,
+        source: &[u8],
+    ) -> Result<(), Refused>
         ensures served { is_ok result ≡ writable (view (D.Device.contents below.old) self) block source.now (D.Device.allowed below.old) }
         ensures sets { view (D.Device.contents below.new) self ≡ (if is_ok result then slice_set (view (D.Device.contents below.old) self) block source.now else view (D.Device.contents below.old) self) }
         ensures outside { SameOutside self (D.Device.contents below.old) (D.Device.contents below.new) }
@@ -44,7 +54,7 @@ impl Span {
         ensures falls { D.Device.allowed below.new ≤ D.Device.allowed below.old }
     {
         if block >= self.count_over(below) {
-            return Err(());
+            return Err(Refused);
         }
         below.write(self.start + block, source)
     }
