@@ -1,12 +1,16 @@
-// Block devices: a count of blocks, 512 bytes in each, and an allowance of further writes.
+// Block devices: a count of blocks, 512 bytes in each, and an allowance of further writes; and the
+// bytes that a device may lie in.
 #![tactic(auto)]
 
 ghost use Rattle.std.specs.Prelude.{◌≡◌, ℕ, ◌+◌, ◌≤◌, List, [], length, is_ok, if◌then◌else◌, slice_index_or, slice_set};
 ghost use Rattle.device.specs.Access.{readable, writable};
 ghost use Rattle.device.specs.Laws.{Laws};
 
+mod bytes;
+mod lent;
 mod refused;
 
+pub use bytes::Bytes;
 pub use refused::Refused;
 
 // The bytes of a block.

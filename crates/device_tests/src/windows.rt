@@ -2,13 +2,13 @@ use append_log::LogBuf;
 use device::{Device, Refused};
 use image::Image;
 use std::test::Fail;
-use window::{Span, Window, WindowMut};
+use window::{Span, Window};
 
 #[test]
 fn a_window_past_the_end_tells_no_blocks(rt: HostRuntime) {
     let mut bytes = [0; 512 * 4];
     let mut image = Image::new(&mut bytes);
-    let past = WindowMut::new(&mut image, Span { start: 2, count: 3 });
+    let past = Window::new(&mut image, Span { start: 2, count: 3 });
     assert_eq!(rt; past.count(), 0);
     let mut buffer = [9; 512];
     assert_eq!(rt; past.read(0, &mut buffer), Err(Refused));
@@ -20,7 +20,7 @@ fn a_window_at_the_end_writes_only_inside(rt: HostRuntime) {
     let mut bytes = [0; 512 * 4];
     {
         let mut image = Image::new(&mut bytes);
-        let mut window = WindowMut::new(&mut image, Span { start: 2, count: 2 });
+        let mut window = Window::new(&mut image, Span { start: 2, count: 2 });
         assert_eq!(rt; window.count(), 2);
         assert_eq!(rt; window.write(1, &[5; 512]), Ok(()));
         assert_eq!(rt; window.write(2, &[5; 512]), Err(Refused));

@@ -8,7 +8,7 @@ ghost use Rattle.window.specs.View.{view};
 
 use append_log::Log;
 use device::{Device, Refused};
-use window::{Span, WindowMut};
+use window::{Span, Window};
 
 // Writes a block of a window over a device that is lent for this call.
 pub fn write_within<D: Device>(
@@ -23,7 +23,7 @@ pub fn write_within<D: Device>(
     ensures costs { D.Device.allowed device.old ≤ D.Device.allowed device.new + (if is_ok result then 1 else 0) }
     ensures falls { D.Device.allowed device.new ≤ D.Device.allowed device.old }
 {
-    let mut window = WindowMut::new(device, span);
+    let mut window = Window::new(device, span);
     window.write(block, source)
 }
 
@@ -41,7 +41,7 @@ pub fn write_within_both<D: Device>(
     ensures costs { D.Device.allowed device.old ≤ D.Device.allowed device.new + (if is_ok result then 1 else 0) }
     ensures falls { D.Device.allowed device.new ≤ D.Device.allowed device.old }
 {
-    let mut window = WindowMut::new(device, outer);
+    let mut window = Window::new(device, outer);
     write_within(&mut window, inner, block, source)
 }
 

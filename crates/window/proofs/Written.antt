@@ -1,5 +1,5 @@
 -- A window after a write through it.
-use Rattle.std.proofs.Common.{◌≡◌, ℕ, ◌+◌, ◌<◌, Bool, true, false, cond, ◌≢◌, List, [], length, get_or, set, sym, refl, ap, ◌∙◌, ⊎_elim, arith, length-set}
+use Rattle.std.proofs.Common.{◌≡◌, ℕ, ◌+◌, ◌<◌, Bool, true, false, cond, ◌≢◌, List, [], length, get_or, set, sym, ap, ◌∙◌, subst, ⊎_elim, arith, length-set}
 use Rattle.std.proofs.lemmas.List.{ext_get_or, get_or-set_same, get_or-set_other}
 use Rattle.std.proofs.lemmas.Bool.{cases_eq}
 use Rattle.window.specs.declared.span.Span.{Span}
@@ -39,10 +39,10 @@ module _ (bs : List (List ℕ)) (w : Span) (b : ℕ) (x : List ℕ) (l : b < len
       }
 
   -- the same where the write below may be refused
-  pub view-after : (r : Bool) → view (cond r (set bs (w.start + b) x) bs) w ≡ cond r (set (view bs w) b x) (view bs w)
-  view-after true = view-set
-  view-after false = refl
+  pub view-after : (cs : List (List ℕ)) (k : ℕ) (r : Bool) → cs ≡ cond r (set bs k x) bs → k ≡ w.start + b → view cs w ≡ cond r (set (view bs w) b x) (view bs w)
+  view-after cs k true e p = ap (λ ds. view ds w) (e ∙ ap (λ j. set bs j x) p) ∙ view-set
+  view-after cs k false e p = ap (λ ds. view ds w) e
 
-  pub outside_after : (r : Bool) → SameOutside w bs (cond r (set bs (w.start + b) x) bs)
-  outside_after true = outside_set
-  outside_after false = outside_refl bs w
+  pub outside_after : (cs : List (List ℕ)) (k : ℕ) (r : Bool) → cs ≡ cond r (set bs k x) bs → k ≡ w.start + b → SameOutside w bs cs
+  outside_after cs k true e p = subst (λ (ds : List (List ℕ)). SameOutside w bs ds) (sym (e ∙ ap (λ j. set bs j x) p)) outside_set
+  outside_after cs k false e p = subst (λ (ds : List (List ℕ)). SameOutside w bs ds) (sym e) (outside_refl bs w)
