@@ -30,8 +30,5 @@ pub trait KeyKind {
 pub fn compare_positions<K: KeyKind>(a: &[u8], b: &[u8]) -> Ordering
     ensures { result ≡ position K.KeyKind.kind a.now b.now }
 {
-    match K::hash(a).cmp(&K::hash(b)) {
-        Ordering::Equal => K::compare(a, b),
-        apart => apart,
-    }
+    K::hash(a).cmp(&K::hash(b)).then_with(|| K::compare(a, b))
 }

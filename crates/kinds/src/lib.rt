@@ -7,4 +7,4 @@ mod numbers;
 
 pub use kind::{KeyKind, compare_positions};
 pub use names::ExactNames;
-pub use numbers::{RegisterNumbers, StraightNumbers};
+pub use numbers::{NumberHash, RegisterNumbers, StraightNumbers};
