@@ -19,15 +19,25 @@ abbrev pub by_number : List ℕ → List ℕ → Ordering
 by_number a b = numeric (number_of a) (number_of b)
 
 -- the multiplier spreads numbers that follow one another
+abbrev pub spread_number : ℕ → ℕ
+spread_number number = (number * 2654435761) % 2 ^ 32
+
 abbrev pub spread : List ℕ → ℕ
-spread key = (number_of key * 2654435761) % 2 ^ 32
+spread key = spread_number (number_of key)
 
 -- the number itself; a kind's hash is below 2 ^ 32 on any list, also where an element is no byte
+abbrev pub straight_number : ℕ → ℕ
+straight_number number = number % 2 ^ 32
+
 abbrev pub straight : List ℕ → ℕ
-straight key = number_of key % 2 ^ 32
+straight key = straight_number (number_of key)
+
+-- numbers under a hash
+abbrev pub numbers : (ℕ → ℕ) → Kind
+numbers hashed = record { lawful = is_number; hash = λ key. hashed (number_of key); order = by_number }
 
 abbrev pub register_numbers : Kind
-register_numbers = record { lawful = is_number; hash = spread; order = by_number }
+register_numbers = numbers spread_number
 
 abbrev pub straight_numbers : Kind
-straight_numbers = record { lawful = is_number; hash = straight; order = by_number }
+straight_numbers = numbers straight_number

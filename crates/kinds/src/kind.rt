@@ -1,5 +1,5 @@
 ghost use Rattle.std.specs.Prelude.{◌≡◌};
-ghost use Rattle.kinds.specs.Kinds.{Kind, TotalOrder, AlikeHash, Bounded, position};
+ghost use Rattle.kinds.specs.Kinds.{Kind, TotalOrder, AlikeHash, Bounded};
 
 use std::cmp::Ordering;
 
@@ -24,14 +24,4 @@ pub trait KeyKind {
 
     // A lawful key has 1 to 40 bytes, and its hash 32 bits.
     ghost bounded: { Bounded kind };
-}
-
-// How the positions of two keys compare: by hash, then by order.
-pub fn compare_positions<K: KeyKind>(a: &[u8], b: &[u8]) -> Ordering
-    ensures { result ≡ position K.KeyKind.kind a.now b.now }
-{
-    match K::hash(a).cmp(&K::hash(b)) {
-        Ordering::Equal => K::compare(a, b),
-        apart => apart,
-    }
 }

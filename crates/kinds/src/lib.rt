@@ -4,7 +4,9 @@
 mod kind;
 mod names;
 mod numbers;
+mod position;
 
-pub use kind::{KeyKind, compare_positions};
+pub use kind::KeyKind;
 pub use names::ExactNames;
-pub use numbers::{RegisterNumbers, StraightNumbers};
+pub use numbers::{NumberHash, RegisterNumbers, StraightNumbers};
+pub use position::{Hashed, compare_positions};

@@ -1,8 +1,6 @@
 ghost use Rattle.kinds.specs.Names.{exact_names, fnv};
 ghost use Rattle.kinds.specs.Bytewise.{by_bytes-total, alike_same, fnv_narrow};
-ghost use Rattle.std.proofs.Common.{ap, lit<};
-ghost use Rattle.std.specs.Prelude.{length, nat_le};
-ghost use Rattle.std.proofs.lemmas.Bool.{and_parts, leb-true};
+ghost use Rattle.std.proofs.Common.{ap, rules};
 
 use crate::kind::KeyKind;
 use std::cmp::Ordering;
@@ -22,14 +20,10 @@ impl KeyKind for ExactNames {
 
     ghost level = { λ a b l m e. ap fnv (alike_same a b e) };
 
-    ghost bounded = { record {
-      some = λ a l. leb-true 1 (length a) (and_parts _ _ l).0;
-      short = λ a l. leb-true (length a) 40 (and_parts (nat_le 1 (length a)) _ l).1;
-      narrow = λ a l. fnv_narrow 0x811C_9DC5 a (lit< tt);
-    } };
+    ghost bounded = { Prim.search (rules, fnv_narrow) };
 
     fn is_lawful(key: &[u8]) -> bool {
-        1 <= key.len() && key.len() <= 40
+        (1..=40).contains(&key.len())
     }
 
     // FNV-1a
@@ -41,6 +35,7 @@ impl KeyKind for ExactNames {
         hash
     }
 
+    #[tactic(auto, using(crate::specs::Bytewise::by_bytes_is))]
     fn compare(a: &[u8], b: &[u8]) -> Ordering {
         a.cmp(&b)
     }

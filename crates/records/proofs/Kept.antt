@@ -1,7 +1,7 @@
 -- What a test keeps of a list.
-use Rattle.std.proofs.Common.{◌≡◌, ℕ, zero, suc, ◌<◌, ◌≤◌, Bool, true, false, List, [], ◌∷◌, length, get_or, take, drop, filter, sym, refl, ap, ◌∙◌, ⊎_elim, arith}
+use Rattle.std.proofs.Common.{◌≡◌, ℕ, zero, suc, ◌<◌, ◌≤◌, Bool, true, false, List, [], ◌∷◌, length, get_or, take, drop, filter, refl, ap, ◌∙◌, arith}
 use Rattle.std.specs.List.{AllByRecursion}
-use Rattle.std.proofs.lemmas.Bool.{cases_Bool, cond-true, cond-false}
+use Rattle.std.proofs.lemmas.Bool.{cond-true, cond-false}
 
 module _ {X : Type 0} where
   pub kept_yes : (p : X → Bool) (x : X) (xs : List X) → p x ≡ true → filter p (x ∷ xs) ≡ x ∷ filter p xs
@@ -16,31 +16,17 @@ module _ {X : Type 0} where
 
   pub kept_all : (p : X → Bool) (xs : List X) → AllByRecursion (λ x. p x ≡ true) xs → filter p xs ≡ xs
   kept_all p [] h = refl
-  kept_all p (x ∷ xs) h = kept_yes p x xs h.0 ∙ ap (λ ys. x ∷ ys) (kept_all p xs h.1)
+  kept_all p (x ∷ xs) h = let ih = kept_all p xs h.1 in grind arith
 
   -- two tests that agree on each element
   pub kept_same : (p q : X → Bool) (xs : List X) → AllByRecursion (λ x. p x ≡ q x) xs → filter p xs ≡ filter q xs
   kept_same p q [] h = refl
-  kept_same p q (x ∷ xs) h = ⊎_elim
-      (λ (t : p x ≡ true). kept_yes p x xs t ∙ ap (λ ys. x ∷ ys) (kept_same p q xs h.1) ∙ sym (kept_yes q x xs (sym h.0 ∙ t)))
-      (λ (f : p x ≡ false). kept_no p x xs f ∙ kept_same p q xs h.1 ∙ sym (kept_no q x xs (sym h.0 ∙ f)))
-      (cases_Bool (p x))
+  kept_same p q (x ∷ xs) h = let ih = kept_same p q xs h.1 in grind arith
 
   -- the order of two tests does not matter
   pub kept_comm : (p q : X → Bool) (xs : List X) → filter p (filter q xs) ≡ filter q (filter p xs)
   kept_comm p q [] = refl
-  kept_comm p q (x ∷ xs) =
-      let ih = kept_comm p q xs in
-      ⊎_elim
-      (λ (t : p x ≡ true). ⊎_elim
-      (λ (u : q x ≡ true). ap (filter p) (kept_yes q x xs u) ∙ kept_yes p x (filter q xs) t ∙ ap (λ ys. x ∷ ys) ih ∙ sym (ap (filter q) (kept_yes p x xs t) ∙ kept_yes q x (filter p xs) u))
-      (λ (f : q x ≡ false). ap (filter p) (kept_no q x xs f) ∙ ih ∙ sym (ap (filter q) (kept_yes p x xs t) ∙ kept_no q x (filter p xs) f))
-      (cases_Bool (q x)))
-      (λ (n : p x ≡ false). ⊎_elim
-      (λ (u : q x ≡ true). ap (filter p) (kept_yes q x xs u) ∙ kept_no p x (filter q xs) n ∙ ih ∙ sym (ap (filter q) (kept_no p x xs n)))
-      (λ (f : q x ≡ false). ap (filter p) (kept_no q x xs f) ∙ ih ∙ sym (ap (filter q) (kept_no p x xs n)))
-      (cases_Bool (q x)))
-      (cases_Bool (p x))
+  kept_comm p q (x ∷ xs) = let ih = kept_comm p q xs in grind arith
 
   pub all-every : (P : X → Type 0) → ((x : X) → P x) → (xs : List X) → AllByRecursion P xs
   all-every P f [] = tt
@@ -49,15 +35,7 @@ module _ {X : Type 0} where
   -- a test that passes no element but those that a second one passes
   pub kept_within : (p q : X → Bool) (xs : List X) → AllByRecursion (λ x. p x ≡ true → q x ≡ true) xs → filter p (filter q xs) ≡ filter p xs
   kept_within p q [] h = refl
-  kept_within p q (x ∷ xs) h =
-      let ih = kept_within p q xs h.1 in
-      ⊎_elim
-      (λ (t : p x ≡ true). ap (filter p) (kept_yes q x xs (h.0 t)) ∙ kept_yes p x (filter q xs) t ∙ ap (λ ys. x ∷ ys) ih ∙ sym (kept_yes p x xs t))
-      (λ (n : p x ≡ false). ⊎_elim
-      (λ (t : q x ≡ true). ap (filter p) (kept_yes q x xs t) ∙ kept_no p x (filter q xs) n ∙ ih ∙ sym (kept_no p x xs n))
-      (λ (m : q x ≡ false). ap (filter p) (kept_no q x xs m) ∙ ih ∙ sym (kept_no p x xs n))
-      (cases_Bool (q x)))
-      (cases_Bool (p x))
+  kept_within p q (x ∷ xs) h = let ih = kept_within p q xs h.1 in let here = h.0 in grind arith
 
   pub kept_kept : (p q : X → Bool) → ((x : X) → p x ≡ true → q x ≡ true) → (xs : List X) → filter p (filter q xs) ≡ filter p xs
   kept_kept p q h xs = kept_within p q xs (all-every (λ x. p x ≡ true → q x ≡ true) h xs)

@@ -1,9 +1,9 @@
 -- Sorted records from the first on, and what put and removal come to at a place among them.
-use Rattle.std.proofs.Common.{◌≡◌, ℕ, zero, suc, ◌<◌, ◌≤◌, Bool, true, false, ◌≢◌, List, [], ◌∷◌, ◌++◌, length, get_or, take, drop, filter, Less, Equal, Greater, sym, refl, ap, ◌∙◌, subst, ⊎_elim, arith}
+use Rattle.std.proofs.Common.{◌≡◌, ℕ, zero, suc, ◌<◌, ◌≤◌, Bool, true, false, ◌≢◌, List, [], ◌∷◌, ◌++◌, length, get_or, take, drop, filter, Less, Equal, Greater, sym, refl, subst, ⊎_elim, arith}
 use Rattle.std.specs.List.{AllByRecursion}
 use Rattle.std.specs.Ordering.{is_lt}
 use Rattle.std.proofs.ByRecursion.{All-append, All-get_or, All-from_get_or, all_kept_by}
-use Rattle.std.proofs.lemmas.Bool.{cases_lt, cases_eq, cases_Bool}
+use Rattle.std.proofs.lemmas.Bool.{cases_lt, cases_Bool}
 use Rattle.kinds.specs.Kinds.{Kind, TotalOrder, position}
 use Rattle.kinds.proofs.Positions.{less_onward, position-total}
 use Rattle.records.specs.Records.{is_record, key_of}
@@ -89,16 +89,12 @@ module _ (kind : Kind) (o : TotalOrder kind.lawful kind.order) (key : List ℕ) 
       let a = λ (q : List ℕ). is_lt (position kind key (key_of q)) in
       let ih = parted rs u.3 none.1 in
       ⊎_elim
-      (λ (t : p r ≡ true).
-      let no : a r ≡ false = not_after r u.1 (grind arith) in
-      ap (λ ys. r ∷ ys) ih ∙ ap (λ ys. ys ++ filter a rs) (sym (kept_yes p r rs t)) ∙ ap (λ ys. filter p (r ∷ rs) ++ ys) (sym (kept_no a r rs no)))
+      (λ (t : p r ≡ true). let no : a r ≡ false = not_after r u.1 (grind arith) in grind arith)
       (λ (f : p r ≡ false).
       let n0 = none.0 in
-      let g : position kind (key_of r) key ≡ Greater = grind arith in
-      let yes : a r ≡ true = after_lt r u.1 g in
-      let later : AllByRecursion (λ q. p q ≡ false) rs = past r rs u.1 u.3 u.2 (grind arith) in
-      let nobody : filter p rs ≡ [] = kept_none p rs later in
-      ap (λ ys. r ∷ ys) (ih ∙ ap (λ ys. ys ++ filter a rs) nobody) ∙ sym (kept_yes a r rs yes) ∙ ap (λ ys. ys ++ filter a (r ∷ rs)) (sym (kept_no p r rs f ∙ nobody)))
+      let yes : a r ≡ true = after_lt r u.1 (grind arith) in
+      let nobody : filter p rs ≡ [] = kept_none p rs (past r rs u.1 u.3 u.2 (grind arith)) in
+      grind arith)
       (cases_Bool (p r))
     where
       past : (r : List ℕ) (qs : List (List ℕ)) → kind.lawful (key_of r) ≡ true → Rising kind qs → AllByRecursion (Before kind r) qs → position kind (key_of r) key ≢ Less → AllByRecursion (λ q. is_lt (position kind (key_of q) key) ≡ false) qs
@@ -121,12 +117,15 @@ module _ (kind : Kind) (o : TotalOrder kind.lawful kind.order) (key : List ℕ) 
     -- the key is not there
     pub after-new : (n < length rs → position kind (key_at rs n) key ≢ Equal) → after kind key rs ≡ drop n rs
     unfolding after
-    after-new new = kept_back (λ r. is_lt (position kind key (key_of r))) rs n [] within no-after
-        (λ i h l. after_lt (get_or rs i []) (s.keyed i l) (⊎_elim (λ (e : i ≡ n). subst (λ k. position kind (key_at rs k) key ≡ Greater) (sym e) (let a = g.after n (omega arith) (omega arith) in let b = new (omega arith) in grind arith)) (λ (e : i ≡ n → ⊥). greater i (⊎_elim (λ (k : n < i). k) (λ (k : i ≤ n). absurd (e (omega arith))) (cases_lt n i)) l) (cases_eq i n)))
+    after-new new = kept_back (λ r. is_lt (position kind key (key_of r))) rs n [] within no-after (λ i h l. after_lt (get_or rs i []) (s.keyed i l) (later i h l))
+      where
+        later : (i : ℕ) → n ≤ i → i < length rs → position kind (key_at rs i) key ≡ Greater
+        later i h l = ⊎_elim (λ (k : n < i). greater i k l) (λ (k : i ≤ n). let e : i ≡ n = omega arith in rw e (let a = g.after n (omega arith) (omega arith) in let b = new (omega arith) in grind arith)) (cases_lt n i)
 
     -- the key is at its place
     pub after-found : n < length rs → position kind (key_at rs n) key ≡ Equal → after kind key rs ≡ drop (suc n) rs
     unfolding after
-    after-found ln found = kept_back (λ r. is_lt (position kind key (key_of r))) rs (suc n) [] (omega arith)
-        (λ i h. ⊎_elim (λ (e : i ≡ n). subst (λ k. is_lt (position kind key (key_at rs k)) ≡ false) (sym e) (not_after (get_or rs n []) (s.keyed n ln) (grind arith))) (λ (e : i ≡ n → ⊥). no-after i (⊎_elim (λ (k : i < n). k) (λ (k : n ≤ i). absurd (e (omega arith))) (cases_lt i n))) (cases_eq i n))
-        (λ i h l. after_lt (get_or rs i []) (s.keyed i l) (greater i (omega arith) l))
+    after-found ln found = kept_back (λ r. is_lt (position kind key (key_of r))) rs (suc n) [] (omega arith) upto (λ i h l. after_lt (get_or rs i []) (s.keyed i l) (greater i (omega arith) l))
+      where
+        upto : (i : ℕ) → i < suc n → is_lt (position kind key (key_at rs i)) ≡ false
+        upto i h = ⊎_elim (λ (k : i < n). no-after i k) (λ (k : n ≤ i). let e : i ≡ n = omega arith in rw e (not_after (get_or rs n []) (s.keyed n ln) (grind arith))) (cases_lt i n)

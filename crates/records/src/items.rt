@@ -11,10 +11,11 @@ use words::u16_at;
 fn front(part: &[u8], len: usize) -> Option<&[u8]>
     ensures { option_map (λ x. x.now) result ≡ (if nat_le len (length part.now) then Some (take len part.now) else None) }
 {
-    part.get(0..len)
+    part.get(..len)
 }
 
 // Record n of bytes that have the count at `count` and the pairs from `pairs` on.
+#[tactic(auto, unfolding(crate::specs::Items::item_at))]
 fn item(bytes: &[u8], count: usize, pairs: usize, n: usize) -> Option<&[u8]>
     requires { (pairs ≤ 8) × (count + 2 ≤ pairs) }
     ensures { option_map (λ x. x.now) result ≡ item_at count pairs bytes.now n }
@@ -48,19 +49,14 @@ pub fn bucket_count(block: &[u8]) -> usize
     ensures value { result ≡ length (records_in block.now) }
     ensures bound { result < 65536 }
 {
-    match u16_at(block, 2) {
-        Some(count) => usize::from(count),
-        None => 0,
-    }
+    u16_at(block, 2).map_or(0, usize::from)
 }
 
 // The key of record n of a bucket block, where that is a record.
+#[tactic(auto, using(crate::proofs::Itemized::record_is))]
 pub fn bucket_key(block: &[u8], n: usize) -> Option<&[u8]>
     ensures { MatchOption result (is_record (slice_index_or (records_in block.now) n []) ≡ false) (λ key. (n < length (records_in block.now)) × (is_record (slice_index_or (records_in block.now) n []) ≡ true) × (key.now ≡ key_at (records_in block.now) n)) }
 {
-    if n >= bucket_count(block) {
-        return None;
-    }
     let record = read_record(bucket_record(block, n)?)?;
     Some(record.key)
 }

@@ -18,13 +18,11 @@ pub fn read_record(bytes: &[u8]) -> Option<Record<'_>>
     if bytes.len() > MAX_RECORD {
         return None;
     }
-    let [first, rest @ ..] = bytes else {
-        return None;
-    };
+    let (first, rest) = bytes.split_first()?;
     let len = usize::from(*first);
-    if len == 0 || rest.len() < len {
+    if len == 0 {
         return None;
     }
-    let (key, data) = rest.split_at(len);
+    let (key, data) = rest.split_at_checked(len)?;
     Some(Record { key, data })
 }

@@ -6,42 +6,28 @@ ghost use Rattle.records.specs.Items.{records_in};
 ghost use Rattle.records.specs.Searches.{key_at, Sorted, Goes, Finds};
 
 use crate::items::{bucket_count, bucket_key};
-use kinds::KeyKind;
+use kinds::{Hashed, KeyKind};
 use std::cmp::Ordering;
 
-// How the position of a key compares with that of the sought one, whose hash is known.
-fn compare_with<K: KeyKind>(found: &[u8], key: &[u8], hash: u32) -> Ordering
-    requires { hash ≡ K.KeyKind.kind.hash key.now }
-    ensures { result ≡ position K.KeyKind.kind found.now key.now }
-{
-    match K::hash(found).cmp(&hash) {
-        Ordering::Equal => K::compare(found, key),
-        apart => apart,
-    }
-}
-
 // Whether record n has a key whose position is before the sought one's.
-fn is_before<K: KeyKind>(block: &[u8], n: usize, key: &[u8], hash: u32) -> bool
-    requires { hash ≡ K.KeyKind.kind.hash key.now }
-    ensures { is_record (slice_index_or (records_in block.now) n []) ≡ true → result ≡ is_lt (position K.KeyKind.kind (key_at (records_in block.now) n) key.now) }
+fn is_before<K: KeyKind>(block: &[u8], n: usize, sought: &Hashed<'_, K>) -> bool
+    ensures { is_record (slice_index_or (records_in block.now) n []) ≡ true → result ≡ is_lt (position K.KeyKind.kind (key_at (records_in block.now) n) sought.now.key.now) }
 {
-    match bucket_key(block, n) {
-        Some(found) => compare_with::<K>(found, key, hash) == Ordering::Less,
-        None => false,
-    }
+    matches!(bucket_key(block, n), Some(found) if sought.order_of(found).is_lt())
 }
 
-// Where a key goes in a bucket block: how many records stand before it, found by halving.
+// Where a key goes in a bucket block: how many records stand before it. The halving is written out, since the
+// library halves slices alone, and the records of a block are none.
 pub fn place_for<K: KeyKind>(block: &[u8], key: &[u8]) -> usize
     ensures within { result ≤ length (records_in block.now) }
     ensures place { Sorted K.KeyKind.kind (records_in block.now) → K.KeyKind.kind.lawful key.now ≡ true → Goes K.KeyKind.kind (records_in block.now) key.now result }
 {
-    let hash = K::hash(key);
+    let sought = Hashed::<K>::new(key);
     let mut low = 0;
     let mut high = bucket_count(block);
     while low < high {
-        let middle = low + (high - low) / 2;
-        if is_before::<K>(block, middle, key, hash) {
+        let middle = low.midpoint(high);
+        if is_before(block, middle, &sought) {
             low = middle + 1;
         } else {
             high = middle;
@@ -59,9 +45,5 @@ pub fn find<K: KeyKind>(block: &[u8], key: &[u8]) -> Option<usize>
     }
     let place = place_for::<K>(block, key);
     let found = bucket_key(block, place)?;
-    if K::compare(found, key) == Ordering::Equal {
-        Some(place)
-    } else {
-        None
-    }
+    (K::compare(found, key) == Ordering::Equal).then_some(place)
 }

@@ -1,11 +1,18 @@
-use Rattle.std.proofs.Common.{◌≡◌, sym, ap, ◌∙◌, arith}
+use Rattle.std.proofs.Common.{◌≡◌, ℕ, ◌<◌, true, ◌==◌, List, [], length, get_or, Ordering, Less, Equal, Greater, sym, refl, ◌∙◌, arith}
 use Rattle.std.specs.Ordering.{ordering_index}
-use Rattle.std.specs.Cmp.{Equal-is}
-use Rattle.std.proofs.lemmas.Cmp.{is_eq_index}
+use Rattle.std.specs.Bool.{then_some}
+use Rattle.kinds.specs.Kinds.{Kind, TotalOrder, AlikeHash}
 use Rattle.records.specs.Items.{records_in}
-use Rattle.records.specs.Searches.{key_at}
+use Rattle.records.specs.Records.{is_record}
+use Rattle.records.specs.Searches.{key_at, Sorted, Goes, Finds}
 use Rattle.records.proofs.Halved.{none_alike}
 use Rattle.records.proofs.search.find.Goals as goal
+
+module _ (kind : Kind) (o : TotalOrder kind.lawful kind.order) (level : AlikeHash kind) (rs : List (List ℕ)) (key : List ℕ) (n : ℕ) (goes : Sorted kind rs → kind.lawful key ≡ true → Goes kind rs key n) where
+  answer : n < length rs → is_record (get_or rs n []) ≡ true → kind.lawful key ≡ true → (r : Ordering) → r ≡ kind.order (key_at rs n) key → Finds kind rs key (then_some (ordering_index r == 1) n)
+  answer l whole lk Less e = λ s k. none_alike kind o rs s key k level n (goes s k) (λ _ f. let d = e ∙ f in cc)
+  answer l whole lk Equal e = (l, whole, lk, sym e)
+  answer l whole lk Greater e = λ s k. none_alike kind o rs s key k level n (goes s k) (λ _ f. let d = e ∙ f in cc)
 
 pub returns-in_err-found : goal.returns-in_err-found
 returns-in_err-found g c =
@@ -18,24 +25,9 @@ returns-in_err-found g c =
     none_alike kind g.met.K.KeyKind.ordered rs s key lk g.met.K.KeyKind.level place (c.place_for-place.ensures.place s lk)
     (λ l e. let whole = s.whole place l in let not = c.in_err-found.ensures in grind arith))
 
-pub returns-else-eq : goal.returns-else-eq
-returns-else-eq g c =
-    let kind = g.K.KeyKind.kind in
-    let rs = records_in c.args.block.now in
-    let key = c.args.key.now in
-    let place = c.place_for-place.result in
-    let same : c.in_ok-found.found.now ≡ key_at rs place = c.in_ok-found.ensures.2 in
-    let compared : c.compare.result ≡ kind.order (key_at rs place) key = c.compare.ensures ∙ ap (λ k. kind.order k key) same in
-    λ s lk.
-    none_alike kind g.met.K.KeyKind.ordered rs s key lk g.met.K.KeyKind.level place (c.place_for-place.ensures.place s lk)
-    (λ l e. let index = ap ordering_index (compared ∙ e) in let is = c.eq.ensures in let not = c.if-eq.false in grind arith)
-
-pub returns-then-eq : goal.returns-then-eq
-returns-then-eq g c =
-    let kind = g.K.KeyKind.kind in
-    let rs = records_in c.args.block.now in
-    let key = c.args.key.now in
-    let place = c.place_for-place.result in
+pub returns : goal.returns
+returns g c =
     let told = c.in_ok-found.ensures in
-    let compared : c.compare.result ≡ kind.order (key_at rs place) key = c.compare.ensures ∙ ap (λ k. kind.order k key) told.2 in
-    (told.0, told.1, sym c.is_lawful.ensures ∙ c.if-not-is_lawful.false, sym compared ∙ (Equal-is _).0 (is_eq_index _ ∙ sym c.eq.ensures ∙ c.if-eq.true))
+    let kind = g.K.KeyKind.kind in
+    rw (c.then_some.ensures, c.eq.ensures, c.compare.ensures, told.2)
+    (answer kind g.met.K.KeyKind.ordered g.met.K.KeyKind.level (records_in c.args.block.now) c.args.key.now c.place_for-place.result c.place_for-place.ensures.place told.0 told.1 (sym c.is_lawful.ensures ∙ c.if-not-is_lawful.false) _ refl)
