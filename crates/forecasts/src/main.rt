@@ -3,6 +3,7 @@
 
 use kinds::KeyKind;
 use shape::{Row, forecast};
+use std::array;
 use std::io;
 
 // The pair, the length of the key, the key, and the data.
@@ -32,23 +33,14 @@ fn row(number: u32) -> Row {
 
 // The rows of the keys 0 to 8.
 fn nine() -> [Row; 9] {
-    [
-        row(0),
-        row(1),
-        row(2),
-        row(3),
-        row(4),
-        row(5),
-        row(6),
-        row(7),
-        row(8),
-    ]
+    array::from_fn(|key| row(key as u32))
 }
 
 // The same, and one more.
 fn ten(last: u32) -> [Row; 10] {
-    let [a, b, c, d, e, f, g, h, i] = nine();
-    [a, b, c, d, e, f, g, h, i, row(last)]
+    let mut rows = [row(last); 10];
+    rows[..9].copy_from_slice(&nine());
+    rows
 }
 
 fn tell(rt: &HostRuntime, rows: &[Row]) -> io::Result<()> {

@@ -1,9 +1,10 @@
-use Rattle.std.proofs.Common.{◌≡◌, ℕ, zero, suc, ◌+◌, ◌-◌, ◌*◌, ◌/◌, ◌%◌, ◌^◌, ◌<◌, ◌≤◌, max, false, cond, ◌&&◌, eqb, ltb, leb, ◌≢◌, List, [], ◌∷◌, length, get_or, fold, sym, refl, ap, ◌∙◌, subst, ⊎_elim, arith}
+use Rattle.std.proofs.Common.{◌≡◌, ℕ, zero, suc, ◌+◌, ◌-◌, ◌*◌, ◌/◌, ◌%◌, ◌^◌, ◌<◌, ◌≤◌, max, false, cond, ◌&&◌, eqb, ltb, leb, ◌≢◌, List, [], ◌∷◌, length, get_or, fold, Some, sym, refl, ap, ◌∙◌, subst, ⊎_elim, arith}
 use Rattle.std.proofs.lemmas.List.{ext_get_or}
 use Rattle.std.proofs.lemmas.Bool.Decides.{nat_tests}
 use Rattle.std.proofs.lemmas.Bool.{cases_eq, cases_lt, eq-eqb, ne_eqb, eqb-true, lt-ltb, le-ltb, le-leb, and_from, and_right, cond-true, cond-false}
 use Rattle.std.proofs.lemmas.Nat.{shl-shr, shr-shr, pow-add, div-add-mod', shr_le}
 use Rattle.header.specs.Headers.{RunAt, deepest, byte_of, pointer_byte, slot_in, recounted, Encodes, Lawful}
+use Rattle.header.proofs.RunsLaws.{up}
 use Rattle.words.specs.BigEndian.{be32, bytes32}
 use Rattle.words.proofs.Overwritten.{length-put, put_below, put_inside, put_above}
 use borrow.Rule.Slice.PartMut.{put_mid}
@@ -47,20 +48,7 @@ run_len d l =
     let z : 7 - d + d ≡ 7 = omega arith in
     ap (λ n. n / 2 ^ d) (sym (ap (λ k. 2 ^ k) z) ∙ pow-add 2 (7 - d) d) ∙ shl-shr (2 ^ (7 - d)) d
 
-pub up : (a b s t : ℕ) → a ≤ b → t / 2 ^ a ≡ s / 2 ^ a → t / 2 ^ b ≡ s / 2 ^ b
-up a b s t l e =
-    let z : a + (b - a) ≡ b = omega arith in
-    subst (λ n. t / 2 ^ n ≡ s / 2 ^ n) z (sym (shr-shr t a (b - a)) ∙ ap (λ n. n / 2 ^ (b - a)) e ∙ shr-shr s a (b - a))
-
-pub same_lawful : {n m : ℕ} {a b c d : List ℕ} → n ≡ m → a ≡ b → c ≡ d → Lawful m b d → Lawful n a c
-same_lawful {n} {m} {a} {b} {c} {d} e f g law =
-    subst (λ k. Lawful k a c) (sym e) (subst (λ xs. Lawful m xs c) (sym f) (subst (λ ys. Lawful m b ys) (sym g) law))
-
--- the count that a block has
-abbrev pub count_in : List ℕ → ℕ
-count_in block = get_or block 2 0 * 16777216 + get_or block 3 0 * 65536 + get_or block 4 0 * 256 + get_or block 5 0
-
-pub encodes_same : (count d : ℕ) (slots a b : List ℕ) → Encodes count d slots a → Encodes count d slots b → a ≡ b
+encodes_same : (count d : ℕ) (slots a b : List ℕ) → Encodes count d slots a → Encodes count d slots b → a ≡ b
 encodes_same count d slots a b p q =
     ext_get_or 0 a b (p.long ∙ sym q.long) (λ i l. let m : i < 512 = omega (arith, p.long) in p.bytes i m ∙ sym (q.bytes i m))
 
@@ -80,30 +68,28 @@ count_told count depth slots block c enc =
     let one : count / 1 % 256 ≡ count % 256 = omega arith in
     omega (arith, b2, b3, b4, b5, d1, d2, d3, top, one)
 
+-- the bytes of a count, as a block has them
+byte32 : (count k : ℕ) → k < 4 → get_or (bytes32 count) k 0 ≡ count / 2 ^ (8 * (3 - k)) % 256
+byte32 count zero l = refl
+byte32 count (suc zero) l = refl
+byte32 count (suc (suc zero)) l = refl
+byte32 count (suc (suc (suc zero))) l = omega arith
+byte32 count (suc (suc (suc (suc k)))) l = absurd (omega arith)
+
+pub count_byte : (count i : ℕ) → 2 ≤ i → i < 6 → get_or (bytes32 count) (i - 2) 0 ≡ count / 2 ^ (8 * (5 - i)) % 256
+count_byte count i low high =
+    let e : 3 - (i - 2) ≡ 5 - i = omega arith in
+    byte32 count (i - 2) (omega arith) ∙ ap (λ k. count / 2 ^ (8 * k) % 256) e
+
 -- a block whose count is written anew, byte by byte
 pub recount_bytes : (block : List ℕ) (count : ℕ) → length block ≡ 512 → (i : ℕ) → i < 512 → get_or (put_mid 2 4 block (bytes32 count)) i 0 ≡ recounted block count i
 recount_bytes block count long i l =
     let fits : 2 + 4 ≤ length block = omega arith in
-    let inside = put_inside block (bytes32 count) 2 4 fits refl in
-    let at : (k : ℕ) → k < 4 → (v : ℕ) → get_or (bytes32 count) k 0 ≡ v → i ≡ 2 + k → recounted block count (2 + k) ≡ v → get_or (put_mid 2 4 block (bytes32 count)) i 0 ≡ recounted block count i =
-    λ k b v e here told. inside k i (sym here) b ∙ e ∙ sym (ap (recounted block count) here ∙ told) in
     ⊎_elim
     (λ (b : i < 2). put_below block (bytes32 count) 2 4 fits refl i b ∙ grind (arith, nat_tests))
     (λ (a : 2 ≤ i).
     ⊎_elim
-    (λ (b : i < 6).
-    ⊎_elim
-    (λ (e : i ≡ 2). at 0 (omega arith) _ refl e refl)
-    (λ (n2 : i ≢ 2).
-    ⊎_elim
-    (λ (e : i ≡ 3). at 1 (omega arith) _ refl e refl)
-    (λ (n3 : i ≢ 3).
-    ⊎_elim
-    (λ (e : i ≡ 4). at 2 (omega arith) _ refl e refl)
-    (λ (n4 : i ≢ 4). at 3 (omega arith) _ refl (omega arith) (omega arith))
-    (cases_eq i 4))
-    (cases_eq i 3))
-    (cases_eq i 2))
+    (λ (b : i < 6). put_inside block (bytes32 count) 2 4 fits refl (i - 2) i (omega arith) (omega arith) ∙ count_byte count i a b ∙ grind (arith, nat_tests))
     (λ (past : 6 ≤ i). put_above block (bytes32 count) 2 4 fits refl i past ∙ grind (arith, nat_tests))
     (cases_lt i 6))
     (cases_lt i 2)
@@ -139,12 +125,12 @@ recount_encodes block count old depth slots enc = record {
   bytes = λ i l. recount_bytes block count enc.long i l ∙ recounted_is block count old depth slots i (enc.bytes i l);
 }
 
+pub some_number : {a b : ℕ} → Some a ≡ Some b → a ≡ b
+some_number e = cc
+
 module _ (count : ℕ) (slots rooms block : List ℕ) (law : Lawful count slots rooms) (enc : Encodes count (deepest rooms) slots block) where
   pub deep_read : get_or block 1 0 ≡ deepest rooms
   deep_read = enc.bytes 1 (omega arith)
-
-  pub count_read : count_in block ≡ count
-  count_read = count_told count (deepest rooms) slots block law.count_fits enc
 
   pub slot_read : (d : ℕ) → d ≡ deepest rooms → (i : ℕ) → i < 128 → slot_in block d i ≡ get_or slots i 0
   slot_read d e i l =
@@ -177,12 +163,17 @@ module _ (count : ℕ) (slots rooms block : List ℕ) (law : Lawful count slots 
   slots_read d read e long each =
       ext_get_or 0 read slots (long ∙ sym law.slots_long) (λ i l. let m : i < 128 = omega arith in each i m ∙ slot_read d e i m)
 
-  pub rooms_read : (read : List ℕ) (found : List ℕ) → read ≡ slots → length found ≡ 128 → ((i : ℕ) → i < 128 → (k : ℕ) → k ≤ 7 → RunAt read k i → get_or found i 0 ≡ k) → found ≡ rooms
-  rooms_read read found e long only =
-      ext_get_or 0 found rooms (long ∙ sym law.rooms_long)
-      (λ i l. let m : i < 128 = omega arith in only i m (get_or rooms i 0) (law.small i m) (subst (λ xs. RunAt xs (get_or rooms i 0) i) (sym e) (law.runs i m)))
+  -- what the readings of the block come to
+  pub parts_read : (read found : List ℕ) → length read ≡ 128 → ((i : ℕ) → i < 128 → get_or read i 0 ≡ slot_in block (get_or block 1 0) i) → length found ≡ 128 → ((i : ℕ) → i < 128 → (k : ℕ) → k ≤ 7 → RunAt read k i → get_or found i 0 ≡ k) → (read ≡ slots) × (found ≡ rooms)
+  parts_read read found long each long' only =
+      let e = slots_read (get_or block 1 0) read deep_read long each in (
+        e,
+        ext_get_or 0 found rooms (long' ∙ sym law.rooms_long) (λ i l. let m : i < 128 = omega arith in only i m (get_or rooms i 0) (law.small i m) (subst (λ xs. RunAt xs (get_or rooms i 0) i) (sym e) (law.runs i m))),
+      )
 
-  -- what the three readings of the block come to
-  pub all_read : (read found : List ℕ) → length read ≡ 128 → ((i : ℕ) → i < 128 → get_or read i 0 ≡ slot_in block (get_or block 1 0) i) → length found ≡ 128 → ((i : ℕ) → i < 128 → (k : ℕ) → k ≤ 7 → RunAt read k i → get_or found i 0 ≡ k) → (count_in block ≡ count) × (read ≡ slots) × (found ≡ rooms)
-  all_read read found long each long' only =
-      let e = slots_read (get_or block 1 0) read deep_read long each in (count_read, e, rooms_read read found e long' only)
+  pub law_read : (n : ℕ) (read found : List ℕ) → n ≡ count → read ≡ slots → found ≡ rooms → Lawful n read found
+  law_read n read found a b c = rw (a, b, c) law
+
+  -- and writing them gives the block again
+  pub block_again : (n : ℕ) (read found again : List ℕ) → n ≡ count → read ≡ slots → found ≡ rooms → Encodes n (deepest found) read again → again ≡ block
+  block_again n read found again a b c e = encodes_same count (deepest rooms) slots again block (rw (a, b, c) at e) enc

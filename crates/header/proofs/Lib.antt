@@ -1,2 +1,3 @@
 pub mod RunsLaws
 pub mod Blocks
+pub mod FromFn

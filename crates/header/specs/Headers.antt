@@ -20,6 +20,13 @@ RunAt slots k s = (t : ℕ) → t < 128 → (slice_index slots t == slice_index 
 abbrev pub LawfulAt : List ℕ → List ℕ → ℕ → Type 0
 LawfulAt slots rooms s = (slice_index rooms s ≤ 7) × RunAt slots (slice_index rooms s) s
 
+-- a slot is lawful, where those before it are; and all are
+unfoldable pub LawfulNext : List ℕ → List ℕ → ℕ → Type 0
+LawfulNext slots rooms s = ((t : ℕ) → t < s → LawfulAt slots rooms t) → LawfulAt slots rooms s
+
+unfoldable pub AllLawful : List ℕ → List ℕ → Type 0
+AllLawful slots rooms = (s : ℕ) → s < 128 → LawfulAt slots rooms s
+
 -- the length of the longest prefix of a bucket
 unfoldable pub deepest : List ℕ → ℕ
 deepest rooms = fold (λ d r. max d (7 - r)) 0 rooms

@@ -3,45 +3,36 @@ ghost use Rattle.header.specs.Headers.{RunAt, deepest, byte_of, pointer_byte, sl
 ghost use Rattle.words.specs.BigEndian.{word32};
 
 use crate::header::Header;
-use crate::law::{are_lawful, room_of};
+use crate::law::room_of;
+use std::array;
 use words::{u16_at, u32_at};
 
+// The first byte of a header block.
+const TAG: u8 = 2;
+
 // The length of the longest bucket prefix.
-pub(crate) fn depth_of(rooms: &[u8]) -> u8
-    ensures value { result ≡ deepest rooms.now }
-    ensures small { result ≤ 7 }
+pub(crate) fn depth_of(rooms: &[u8; 128]) -> u8
+    ensures { result ≡ deepest rooms.now }
 {
-    let mut deep = 0u8;
-    for room in rooms {
-        deep = deep.max(7u8.saturating_sub(*room));
-    }
-    deep
+    rooms
+        .iter()
+        .fold(0, |deep: u8, room| deep.max(7u8.saturating_sub(*room)))
 }
 
-fn pointer_byte(slots: &[u16], at: usize, odd: usize) -> u8
-    requires { length slots.now ≡ 128 }
-    ensures { result ≡ pointer_byte slots.now at odd }
-{
-    if at >= 128 {
-        return 0;
-    }
-    if odd == 0 {
-        (slots[at] / 256) as u8
-    } else {
-        (slots[at] % 256) as u8
-    }
-}
-
-fn byte(count: u32, deep: u8, slots: &[u16], i: usize) -> u8
-    requires { (length slots.now ≡ 128) × ((deep ≤ 7) × (i < 512)) }
+fn byte(count: u32, deep: u8, slots: &[u16; 128], i: usize) -> u8
+    requires { (deep ≤ 7) × (i < 512) }
     ensures { result ≡ byte_of count deep slots.now i }
 {
     match i {
-        0 => 2,
+        0 => TAG,
         1 => deep,
-        2..=5 => ((count >> (8 * (5 - i))) % 256) as u8,
+        2..=5 => count.to_be_bytes()[i - 2],
         6..=7 => 0,
-        _ => pointer_byte(slots, (i - 8) / 2 * (128 >> deep), i % 2),
+        _ => {
+            slots
+                .get((i - 8) / 2 * (128 >> deep))
+                .map_or(0, |slot| slot.to_be_bytes()[i % 2])
+        }
     }
 }
 
@@ -49,44 +40,26 @@ fn byte(count: u32, deep: u8, slots: &[u16], i: usize) -> u8
 pub fn encode(header: &Header) -> [u8; 512]
     ensures { Encodes header.now.count (deepest header.now.rooms) header.now.slots result }
 {
-    let mut block = [0; 512];
-    for i in 0..512 {
-        block[i] = byte(header.count, header.depth, &header.slots, i);
-    }
-    block
+    array::from_fn(|i| byte(header.count, header.depth, &header.slots, i))
 }
 
-// Whether each bucket is named by an aligned run.
-fn is_lawful(slots: &[u16], rooms: &[u8]) -> bool
-    requires slots_len { (length slots.now ≡ 128) × (length rooms.now ≡ 128) }
-    requires small { (s : ℕ) → s < 128 → slice_index rooms.now s ≤ 7 }
-    ensures { Decides result ((s : ℕ) → s < 128 → RunAt slots.now (slice_index rooms.now s) s) }
+fn read_slots(block: &[u8; 512], deep: u8) -> [u16; 128]
+    requires { deep ≤ 7 }
+    ensures { (i : ℕ) → i < 128 → slice_index result i ≡ slot_in block.now deep i }
 {
-    are_lawful(slots, rooms)
-}
-
-fn read_slots(block: &[u8], deep: u8) -> [u16; 128]
-    requires { (length block.now ≡ 512) × (deep ≤ 7) }
-    ensures long { length result ≡ 128 }
-    ensures each { (i : ℕ) → i < 128 → slice_index result i ≡ slot_in block.now deep i }
-{
-    let mut slots = [0; 128];
-    for i in 0..128usize {
+    array::from_fn(|i| {
         let at = 8 + 2 * (i >> (7 - deep));
-        slots[i] = block[at] as u16 * 256 + block[at + 1] as u16;
-    }
-    slots
+        u16::from_be_bytes([block[at], block[at + 1]])
+    })
 }
 
-fn read_rooms(slots: &[u16]) -> [u8; 128]
-    requires { length slots.now ≡ 128 }
-    ensures long { length result ≡ 128 }
+fn read_rooms(slots: &[u16; 128]) -> [u8; 128]
     ensures small { (i : ℕ) → i < 128 → slice_index result i ≤ 7 }
     ensures only { (i : ℕ) → i < 128 → (k : ℕ) → k ≤ 7 → RunAt slots.now k i → slice_index result i ≡ k }
 {
     let mut rooms = [0; 128];
-    for i in 0..128usize {
-        rooms[i] = room_of(slots, i);
+    for (slot, room) in rooms.iter_mut().enumerate() {
+        *room = room_of(slots, slot as u8);
     }
     rooms
 }
@@ -101,27 +74,10 @@ pub fn decode(block: &[u8; 512]) -> Option<Header>
     if deep > 7 {
         return None;
     }
-    let count = block[2] as u32 * 16777216
-        + block[3] as u32 * 65536
-        + block[4] as u32 * 256
-        + block[5] as u32;
     let slots = read_slots(block, deep);
     let rooms = read_rooms(&slots);
-    if !is_lawful(&slots, &rooms) {
-        return None;
-    }
-    let depth = depth_of(&rooms);
-    let header = Header {
-        depth,
-        count,
-        slots,
-        rooms,
-    };
-    if encode(&header) == *block {
-        Some(header)
-    } else {
-        None
-    }
+    let header = Header::new(count_in(block)?, slots, rooms)?;
+    (encode(&header) == *block).then_some(header)
 }
 
 // The pointer that a header block has for a hash, read in place.

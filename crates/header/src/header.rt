@@ -81,23 +81,13 @@ impl Header {
     }
 
     // The same header for another count of records.
-    pub fn with_count(self, count: u32) -> Header
+    pub fn with_count(mut self, count: u32) -> Header
         ensures count { result.count ≡ count }
         ensures slots { result.slots ≡ self.slots }
         ensures rooms { result.rooms ≡ self.rooms }
     {
-        let Header {
-            depth,
-            count: _,
-            slots,
-            rooms,
-        } = self;
-        Header {
-            depth,
-            count,
-            slots,
-            rooms,
-        }
+        self.count = count;
+        self
     }
 
     // The bucket of a hash.

@@ -7,3 +7,4 @@ mod law;
 
 pub use codec::{count_in, decode, encode, pointer_for, set_count};
 pub use header::Header;
+pub use law::buddy;

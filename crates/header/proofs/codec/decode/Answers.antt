@@ -1,61 +1,31 @@
-use Rattle.std.proofs.Common.{ℕ, ◌<◌, false, get_or, sym, refl, subst, arith}
-use Rattle.std.proofs.lemmas.Bool.{both_ways}
+use Rattle.std.proofs.Common.{◌≡◌, true, ◌∙◌, arith}
 use Rattle.std.proofs.lemmas.Slice.Eq.{slice_eq-Decides}
-use Rattle.header.specs.Headers.{RunAt, deepest, Encodes}
-use Rattle.header.proofs.Blocks.{deepest_small, deep_read, count_in, all_read, encodes_same}
-use Rattle.header.proofs.codec.decode.Goals as goal
 use Rattle.std.proofs.lemmas.Bool.Decides.{Decides-eqb}
+use Rattle.header.specs.Headers.{deepest}
+use Rattle.header.proofs.Blocks.{deepest_small, deep_read, parts_read, law_read, block_again, some_number}
+use Rattle.header.proofs.codec.decode.Goals as goal
 
-pub returns-then-deep-gt7 : goal.returns-then-deep-gt7
-returns-then-deep-gt7 c = record {
-  sound = tt;
-  lawful = tt;
-  whole = λ count slots rooms law enc. absurd (omega (arith, c.if-deep-gt7.true, deep_read count slots rooms c.args.block.now law enc, deepest_small rooms));
-}
+pub returns-then-deep-gt7-clause-whole : goal.returns-then-deep-gt7-clause-whole
+returns-then-deep-gt7-clause-whole c = λ count slots rooms law enc.
+    absurd (omega (arith, c.if-deep-gt7.true, deep_read count slots rooms c.args.block.now law enc, deepest_small rooms))
 
-pub returns-then-not-is_lawful : goal.returns-then-not-is_lawful
-returns-then-not-is_lawful c = record {
-  sound = tt;
-  lawful = tt;
-  whole = λ count slots rooms law enc.
-      let read = c.read_slots-slots in
-      let found = c.read_rooms-rooms in
-      let e = all_read count slots rooms c.args.block.now law enc read.result found.result read.ensures.long read.ensures.each found.ensures.long found.ensures.only in
-      let lawful : (s : ℕ) → s < 128 → RunAt read.result (get_or found.result s 0) s
-      = subst (λ xs. (s : ℕ) → s < 128 → RunAt xs (get_or found.result s 0) s) (sym e.1) (subst (λ ys. (s : ℕ) → s < 128 → RunAt slots (get_or ys s 0) s) (sym e.2) law.runs) in
-      both_ways false refl (c.if-not-is_lawful.ensures.1 lawful);
-}
+pub returns-in_err-header-clause-whole : goal.returns-in_err-header-clause-whole
+returns-in_err-header-clause-whole c = λ count slots rooms law enc.
+    let block = c.args.block.now in
+    let found = c.read_rooms-rooms in
+    let n = some_number (c.in_ok-count_in.ensures.told count (deepest rooms) slots law.count_fits enc) in
+    let e = parts_read count slots rooms block law enc c.read_slots-slots.result found.result (omega arith) c.read_slots-slots.ensures (omega arith) found.ensures.only in
+    absurd (c.in_err-header.ensures (law_read count slots rooms block law enc _ _ _ n e.0 e.1))
 
-pub returns-then-eq : goal.returns-then-eq
-returns-then-eq c = record {
-  sound =
-      let e = (slice_eq-Decides Decides-eqb _ _ _ c.eq.ensures).0 c.if-eq.true in
-      subst (λ bs. Encodes (count_in c.args.block.now) (deepest c.read_rooms-rooms.result) c.read_slots-slots.result bs) e c.encode.ensures;
-  lawful = let found = c.read_rooms-rooms in record {
-    count_fits = omega arith;
-    slots_long = c.read_slots-slots.ensures.long;
-    rooms_long = found.ensures.long;
-    small = found.ensures.small;
-    runs = c.is_lawful.ensures.0 c.if-not-is_lawful.false;
-  };
-  whole = λ count slots rooms law enc.
-      let read = c.read_slots-slots in
-      let found = c.read_rooms-rooms in
-      all_read count slots rooms c.args.block.now law enc read.result found.result read.ensures.long read.ensures.each found.ensures.long found.ensures.only;
-}
-
-pub returns-else-eq : goal.returns-else-eq
-returns-else-eq c = record {
-  sound = tt;
-  lawful = tt;
-  whole = λ count slots rooms law enc.
-      let block = c.args.block.now in
-      let read = c.read_slots-slots in
-      let found = c.read_rooms-rooms in
-      let again = c.encode.result in
-      let e = all_read count slots rooms block law enc read.result found.result read.ensures.long read.ensures.each found.ensures.long found.ensures.only in
-      let by-rooms : Encodes (count_in block) (deepest rooms) read.result again = subst (λ ys. Encodes (count_in block) (deepest ys) read.result again) e.2 c.encode.ensures in
-      let by_slots : Encodes (count_in block) (deepest rooms) slots again = subst (λ xs. Encodes (count_in block) (deepest rooms) xs again) e.1 by-rooms in
-      let by_count : Encodes count (deepest rooms) slots again = subst (λ n. Encodes n (deepest rooms) slots again) e.0 by_slots in
-      both_ways _ c.if-eq.false ((slice_eq-Decides Decides-eqb _ _ _ c.eq.ensures).1 (encodes_same count (deepest rooms) slots again block by_count enc));
-}
+pub returns-clause-whole : goal.returns-clause-whole
+returns-clause-whole c = λ count slots rooms law enc.
+    let block = c.args.block.now in
+    let found = c.read_rooms-rooms in
+    let header = c.in_ok-header.header in
+    let parts = c.in_ok-header.ensures in
+    let n : header.count ≡ count = parts.1 ∙ some_number (c.in_ok-count_in.ensures.told count (deepest rooms) slots law.count_fits enc) in
+    let e = parts_read count slots rooms block law enc c.read_slots-slots.result found.result (omega arith) c.read_slots-slots.ensures (omega arith) found.ensures.only in
+    let s : header.slots ≡ slots = parts.2 ∙ e.0 in
+    let r : header.rooms ≡ rooms = parts.3 ∙ e.1 in
+    let same : c.eq.result ≡ true = (slice_eq-Decides Decides-eqb _ _ _ c.eq.ensures).1 (block_again count slots rooms block law enc header.count header.slots header.rooms c.encode.result n s r c.encode.ensures) in
+    rw (c.then_some.ensures, same) (n, s, r)

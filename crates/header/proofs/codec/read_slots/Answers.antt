@@ -1,10 +1,7 @@
-use Rattle.std.proofs.Common.{◌≡◌, refl, arith, length-set}
+use Rattle.std.proofs.Common.{◌≡◌, rules}
 use Rattle.header.specs.Headers.{slot_in}
-use Rattle.header.proofs.RunsLaws.{each_more}
+use Rattle.header.proofs.FromFn.{from_fn_each}
 use Rattle.header.proofs.codec.read_slots.Goals as goal
 
-pub loop-i-preserved : goal.loop-i-preserved
-loop-i-preserved c = (
-  simp length-set c.loop-i.invariant.0,
-  each_more (λ k x. x ≡ slot_in c.args.block.now c.args.deep k) c.loop-i.slots c.loop-i.i _ (omega arith) c.loop-i.invariant.1 refl,
-)
+pub returns : goal.returns
+returns c = λ i l. from_fn_each (λ i x. x ≡ slot_in c.args.block.now c.args.deep i) c.from_fn.ensures.items (λ i y q called. search rules) i 0 l

@@ -1,19 +1,17 @@
-use Rattle.std.proofs.Common.{arith}
-use Rattle.header.proofs.RunsLaws.{room_more, room_here_lem}
+use Rattle.std.proofs.Common.{◌≡◌, ℕ, ◌^◌, ◌<◌, true, false, eqb, get_or, refl, rules, arith}
+use Rattle.std.proofs.iter.runs.Sources.{ranges}
+use lib.Bits.{bit_xor}
+use Rattle.header.proofs.RunsLaws.{room_told}
 use Rattle.header.proofs.law.room_of.Goals as goal
 
-pub loop-k-preserved : goal.loop-k-preserved
-loop-k-preserved c =
-    (omega arith, λ j le run. room_more c.args.slots.now c.args.s c.buddy.result c.loop-k.k j c.buddy.ensures.inside c.buddy.ensures.apart c.if-slots-buddy.true (c.loop-k.invariant.1 j le run) run)
-
-pub returns-else-slots-buddy : goal.returns-else-slots-buddy
-returns-else-slots-buddy c = record {
-  small = omega arith;
-  only = λ j le run. room_here_lem c.args.slots.now c.args.s c.buddy.result c.loop-k.k j c.buddy.ensures.inside c.buddy.ensures.near c.if-slots-buddy.false (c.loop-k.invariant.1 j le run) run;
-}
-
-pub returns-after-loop-k : goal.returns-after-loop-k
-returns-after-loop-k c = record {
-  small = omega arith;
-  only = λ j le run. omega (arith, c.loop-k.invariant.1 j le run);
-}
+pub returns-clause-only : goal.returns-clause-only
+returns-clause-only c =
+    let slots = c.args.slots.now in
+    let s = c.args.slot in
+    let r = c.unwrap_or.result in
+    let p = c.find.ensures.runs.0 in
+    let before : (k : ℕ) → k < r → eqb (get_or slots (bit_xor s (2 ^ k)) 0) (get_or slots s 0) ≡ true
+    = λ k l. let o : p.at k ≡ p.at k = refl in search (rules, ranges) in
+    let here : r < 7 → eqb (get_or slots (bit_xor s (2 ^ r)) 0) (get_or slots s 0) ≡ false
+    = λ l. let o : p.at r ≡ p.at r = refl in search (rules, ranges) in
+    room_told slots s r (omega arith) (search (rules, ranges)) before here
