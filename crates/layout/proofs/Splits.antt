@@ -1,18 +1,19 @@
 -- What one step of a split comes to: a light prefix is a bucket, a heavy one is split into its halves.
-use Rattle.std.proofs.Common.{◌≡◌, ℕ, suc, ◌+◌, ◌-◌, ◌*◌, ◌/◌, ◌^◌, ◌<◌, ◌≤◌, Bool, true, false, cond, eqb, ltb, leb, List, [], ◌∷◌, ◌++◌, map, length, get_or, take, drop, sum_by, Less, sym, refl, ap, ◌∙◌, subst, mul_assoc, mul_comm, add-mul, arith, length-append}
+use Rattle.std.proofs.Common.{◌≡◌, ℕ, suc, ◌+◌, ◌-◌, ◌*◌, ◌/◌, ◌^◌, ◌<◌, ◌≤◌, true, false, eqb, leb, List, [], ◌∷◌, ◌++◌, map, length, get_or, take, drop, sum_by, Less, sym, ap, ◌∙◌, subst, Option, Some, None, Result, Ok, Err, MatchOption, OnOk, OnErr, mul_assoc, mul_comm, add-mul, arith, length-append}
 use Rattle.std.specs.List.{AllByRecursion}
+use Rattle.std.specs.Result.{result_ok}
 use Rattle.std.proofs.lemmas.Nat.{pow-add, pow_pos, mul-le, div_below}
 use Rattle.std.proofs.lemmas.List.Edits.{length-between, get_or-between}
 use Rattle.std.proofs.ByRecursion.{All-weaker, kept_by_passes}
 use Rattle.std.proofs.lemmas.List.{append_assoc, map-append, take-take, drop-drop, drop-take}
-use Rattle.std.proofs.lemmas.Bool.{cond-true, eqb-true, leb-true, leb-false, ltb-false, both_ways}
+use Rattle.std.proofs.lemmas.Bool.{eqb-true, leb-true, leb-false}
 use Rattle.std.proofs.lemmas.Bool.Decides.{nat_tests}
 use Rattle.kinds.specs.Kinds.{Kind, position}
 use Rattle.records.specs.Records.{is_record, key_of, load}
 use Rattle.records.specs.Searches.{Sorted}
 use Rattle.records.proofs.Rising.{Rising, Before, sorted_rising}
 use Rattle.buckets.specs.Blocks.{bucket_bytes}
-use Rattle.shape.specs.Shapes.{under, prefix_of, is_light, buckets}
+use Rattle.shape.specs.Shapes.{under, prefix_of, is_light, buckets, Held}
 use Rattle.shape.specs.Buckets.{leaves}
 use Rattle.shape.specs.Keyed.{by_key}
 use Rattle.shape.proofs.Halves.{held_light, held_here, held_low, held_high, held_both}
@@ -21,17 +22,20 @@ use Rattle.shape.proofs.Leaves.{first_within, leaves_light, leaves_heavy, length
 use Rattle.shape.proofs.Cuts.{Up, cut_low, cut_high}
 use Rattle.index.specs.Stored.{prefix_at}
 use Rattle.index.proofs.Reading.{load-sum, sorted_under}
-use Rattle.layout.specs.declared.table.Buckets.{Buckets}
-use Rattle.layout.specs.Laid.{blocks_of, span, leaf_block, SplitInto}
+use Rattle.arrayvec.specs.ArrayVec.{array_vec_len, Extends}
+use Rattle.layout.specs.Laid.{Buckets, span, leaf_block, LaidBehind, Unlaid}
+
+-- the first slot of a prefix, at the top of 32 bits
+pub top_is : (k p : ℕ) → p * 2 ^ (25 + k) ≡ 33554432 * (p * 2 ^ k)
+top_is k p = ap (λ n. p * n) (pow-add 2 25 k) ∙ sym (mul_assoc p (2 ^ 25) (2 ^ k)) ∙ ap (λ n. n * 2 ^ k) (mul_comm p (2 ^ 25)) ∙ mul_assoc (2 ^ 25) p (2 ^ k)
+
+pub first_small : (k p : ℕ) → (p + 1) * 2 ^ k ≤ 128 → p * 2 ^ k < 128
+first_small k p h =
+    let d : (p + 1) * 2 ^ k ≡ p * 2 ^ k + 2 ^ k = add-mul p 1 (2 ^ k) ∙ omega arith in
+    omega (arith, d, pow_pos k)
 
 pub top_small : (k p : ℕ) → (p + 1) * 2 ^ k ≤ 128 → p * 2 ^ (25 + k) < 2 ^ 32
-top_small k p h =
-    let e : p * 2 ^ (25 + k) ≡ 2 ^ 25 * (p * 2 ^ k) = ap (λ n. p * n) (pow-add 2 25 k) ∙ swap p (2 ^ 25) (2 ^ k) in
-    let d : (p + 1) * 2 ^ k ≡ p * 2 ^ k + 2 ^ k = add-mul p 1 (2 ^ k) ∙ omega arith in
-    omega (arith, e, d, pow_pos k)
-  where
-    swap : (a b c : ℕ) → a * (b * c) ≡ b * (a * c)
-    swap a b c = sym (mul_assoc a b c) ∙ ap (λ n. n * c) (mul_comm a b) ∙ mul_assoc b a c
+top_small k p h = omega (arith, top_is k p, first_small k p h)
 
 -- the prefix of a slot is one of those with at most 7 bits
 pub slot_prefix : (s k : ℕ) → s < 128 → k ≤ 7 → (s / 2 ^ k + 1) * 2 ^ k ≤ 128
@@ -40,6 +44,15 @@ slot_prefix s k l h =
     let e : 2 ^ (7 - k) * 2 ^ k ≡ 128 = sym (pow-add 2 (7 - k) k) ∙ ap (λ j. 2 ^ j) z in
     let d = div_below s (2 ^ k) (2 ^ (7 - k)) (pow_pos k) (omega arith) in
     omega (arith, e, mul-le (s / 2 ^ k + 1) (2 ^ k) (2 ^ (7 - k)) (2 ^ k) (omega arith) (omega arith))
+
+-- a push that was tried
+pub pushed : {E : Type 0} (P Q : Type 0) (r : Result (Unit {0}) E) (o : Option (Unit {0})) → o ≡ result_ok r → OnOk r P → OnErr r Q → MatchOption o Q (λ _. P)
+pushed P Q (Ok x) o e p q = rw e p
+pushed P Q (Err x) o e p q = rw e q
+
+pub either : {X : Type 0} (o : Option X) {P P' : Type 0} {Q Q' : X → Type 0} → MatchOption o P Q → (P → P') → ((x : X) → Q x → Q' x) → MatchOption o P' Q'
+either None h f g = f h
+either (Some x) h f g = g x h
 
 -- sorted records stand in rising hash
 pub rising_up : (kind : Kind) (rs : List (List ℕ)) → Rising kind rs → Up (by_key kind) rs
@@ -54,67 +67,87 @@ module _ (kind : Kind) (ys : List (List ℕ)) where
   light_is : (k p : ℕ) (xs : List (List ℕ)) → xs ≡ under (by_key kind) k p ys → leb (load xs) 504 ≡ is_light (by_key kind) k p ys
   light_is k p xs e = ap (λ n. leb n 504) (load-sum xs) ∙ ap (λ zs. leb (sum_by (by_key kind).weight zs) 504) e
 
-  module _ (k p : ℕ) (xs : List (List ℕ)) (e : xs ≡ under (by_key kind) k p ys) where
-    pub leaf-into : (block : List ℕ) (old new : Buckets) (r : Bool) → leb (load xs) 504 ≡ true → block ≡ bucket_bytes (prefix_at k p) xs → r ≡ ltb old.len 8
-        → blocks_of new ≡ cond r (blocks_of old ++ block ∷ []) (blocks_of old) → new.len ≡ old.len + cond r 1 0 → SplitInto kind ys k p old new r
-    leaf-into block old new r light bytes fits blocks long =
-        let t : is_light (by_key kind) k p ys ≡ true = sym (light_is k p xs e) ∙ light in
-        let one = leaves_light (by_key kind) k p ys t in
-        let few : buckets (by_key kind) k p ys ≡ 1 = sym (length-leaves (by_key kind) k p ys) ∙ ap length one in
-        record {
-          held = λ d. held_light (by_key kind) ys k p (leb-true _ _ t);
-          blocks = λ d. blocks ∙ cond-true _ _ _ d ∙ ap (λ b. blocks_of old ++ b ∷ []) (bytes ∙ ap (bucket_bytes (prefix_at k p)) e) ∙ ap (λ ls. blocks_of old ++ map (leaf_block kind ys) ls) (sym one);
-          longer = λ d. long ∙ ap (λ b. old.len + cond b 1 0) d ∙ ap (λ n. old.len + n) (sym few);
-          heavy = λ d room h. absurd (omega (arith, ltb-false old.len 8 (sym fits ∙ d)));
-        }
+  -- a light prefix is one bucket
+  module _ (k p : ℕ) (xs : List (List ℕ)) (e : xs ≡ under (by_key kind) k p ys) (light : leb (load xs) 504 ≡ true) (old : Buckets) where
+    is : is_light (by_key kind) k p ys ≡ true
+    is = sym (light_is k p xs e) ∙ light
 
-    heavy-is : leb (load xs) 504 ≡ false → is_light (by_key kind) k p ys ≡ false
-    heavy-is f = sym (light_is k p xs e) ∙ f
+    few : buckets (by_key kind) k p ys ≡ 1
+    few = sym (length-leaves (by_key kind) k p ys) ∙ ap length (leaves_light (by_key kind) k p ys is)
 
-  pub dead_end : (p : ℕ) (xs : List (List ℕ)) (old : Buckets) → xs ≡ under (by_key kind) 0 p ys → leb (load xs) 504 ≡ false → SplitInto kind ys 0 p old old false
-  dead_end p xs old e f = record {
-    held = λ d. absurd (both_ways false refl d);
-    blocks = λ d. absurd (both_ways false refl d);
-    longer = λ d. absurd (both_ways false refl d);
-    heavy = λ d room h. omega (arith, leb-false _ _ (heavy-is 0 p xs e f), held_here (by_key kind) ys p h);
-  }
-
-  module _ (k p : ℕ) (xs : List (List ℕ)) (e : xs ≡ under (by_key kind) (suc k) p ys) (f : leb (load xs) 504 ≡ false) where
-    heavy : is_light (by_key kind) (suc k) p ys ≡ false
-    heavy = heavy-is (suc k) p xs e f
-
-    two : buckets (by_key kind) (suc k) p ys ≡ buckets (by_key kind) k (2 * p) ys + buckets (by_key kind) k (2 * p + 1) ys
-    two =
-        let A = leaves (by_key kind) k (2 * p) ys in
-        let B = leaves (by_key kind) k (2 * p + 1) ys in
-        omega (arith, length-leaves (by_key kind) (suc k) p ys, ap length (leaves_heavy (by_key kind) k p ys heavy), length-append A B, length-leaves (by_key kind) k (2 * p) ys, length-leaves (by_key kind) k (2 * p + 1) ys)
-
-    pub low-fails : (old new : Buckets) (r : Bool) → r ≡ false → SplitInto kind ys k (2 * p) old new r → SplitInto kind ys (suc k) p old new false
-    low-fails old new r failed s = record {
-      held = λ d. absurd (both_ways false refl d);
-      blocks = λ d. absurd (both_ways false refl d);
-      longer = λ d. absurd (both_ways false refl d);
-      heavy = λ d room h. s.heavy failed (omega (arith, two)) (held_low (by_key kind) ys k p h);
+    pub leaf_behind : (block : List ℕ) (new : Buckets) → block ≡ bucket_bytes (prefix_at k p) xs → Extends old (block ∷ []) new → LaidBehind kind ys k p old new
+    leaf_behind block new bytes more = record {
+      held = held_light (by_key kind) ys k p (leb-true _ _ is);
+      blocks = more ∙ ap (λ b. old.items ++ b ∷ []) (bytes ∙ ap (bucket_bytes (prefix_at k p)) e) ∙ ap (λ ls. old.items ++ map (leaf_block kind ys) ls) (sym (leaves_light (by_key kind) k p ys is));
+      longer = omega (arith, few, ap length more, length-append old.items (block ∷ []));
     }
 
-    pub both-into : (old mid new : Buckets) (q r : Bool) → q ≡ true → SplitInto kind ys k (2 * p) old mid q → SplitInto kind ys k (2 * p + 1) mid new r → SplitInto kind ys (suc k) p old new r
-    both-into old mid new q r done low high =
-        let A = leaves (by_key kind) k (2 * p) ys in
-        let B = leaves (by_key kind) k (2 * p + 1) ys in
-        let split = leaves_heavy (by_key kind) k p ys heavy in
-        record {
-          held = λ d. held_both (by_key kind) ys k p (low.held done) (high.held d);
-          blocks = λ d. high.blocks d ∙ ap (λ zs. zs ++ map (leaf_block kind ys) B) (low.blocks done) ∙ append_assoc (blocks_of old) (map (leaf_block kind ys) A) (map (leaf_block kind ys) B)
-              ∙ ap (λ zs. blocks_of old ++ zs) (sym (map-append (leaf_block kind ys) A B) ∙ ap (map (leaf_block kind ys)) (sym split));
-          longer = λ d. omega (arith, high.longer d, low.longer done, two);
-          heavy = λ d room h. high.heavy d (omega (arith, low.longer done, two)) (held_high (by_key kind) ys k p h);
-        }
+    pub leaf_unlaid : array_vec_len old ≡ 8 → Unlaid kind ys k p old
+    leaf_unlaid full room h = omega (arith, few)
+
+  pub dead_end : (p : ℕ) (xs : List (List ℕ)) (old : Buckets) → xs ≡ under (by_key kind) 0 p ys → leb (load xs) 504 ≡ false → Unlaid kind ys 0 p old
+  dead_end p xs old e f room h = omega (arith, leb-false _ _ (sym (light_is 0 p xs e) ∙ f), held_here (by_key kind) ys p h)
+
+  -- a heavy prefix is split into its halves
+  module _ (K P k q k' q' : ℕ) (z : k + 1 ≡ K) (z' : k' + 1 ≡ K) (w : q ≡ 2 * P) (w' : q' ≡ 2 * P + 1) (xs : List (List ℕ)) (e : xs ≡ under (by_key kind) K P ys) where
+    above : suc k ≡ K
+    above = omega arith
+
+    pub as_heavy : xs ≡ under (by_key kind) (suc k) P ys
+    as_heavy = subst (λ j. xs ≡ under (by_key kind) j P ys) (sym above) e
+
+    module _ (f : leb (load xs) 504 ≡ false) where
+      abbrev Splits : ℕ → ℕ → ℕ → ℕ → Type 0
+      Splits K q k' q' =
+          (leaves (by_key kind) K P ys ≡ leaves (by_key kind) k q ys ++ leaves (by_key kind) k' q' ys)
+          × (Held (by_key kind) K P ys → Held (by_key kind) k q ys × Held (by_key kind) k' q' ys)
+          × (Held (by_key kind) k q ys → Held (by_key kind) k' q' ys → Held (by_key kind) K P ys)
+
+      splits : Splits K q k' q'
+      splits =
+          let same : k ≡ k' = omega arith in
+          subst (λ j. Splits j q k' q') above (subst (λ n. Splits (suc k) n k' q') (sym w) (subst (λ j. Splits (suc k) (2 * P) j q') same (subst (Splits (suc k) (2 * P) k) (sym w')
+          (leaves_heavy (by_key kind) k P ys (sym (light_is (suc k) P xs as_heavy) ∙ f), λ h. (held_low (by_key kind) ys k P h, held_high (by_key kind) ys k P h), λ l h. held_both (by_key kind) ys k P l h))))
+
+      two : buckets (by_key kind) K P ys ≡ buckets (by_key kind) k q ys + buckets (by_key kind) k' q' ys
+      two =
+          let A = leaves (by_key kind) k q ys in
+          let B = leaves (by_key kind) k' q' ys in
+          omega (arith, length-leaves (by_key kind) K P ys, ap length splits.0, length-append A B, length-leaves (by_key kind) k q ys, length-leaves (by_key kind) k' q' ys)
+
+      pub low_unlaid : (old : Buckets) → Unlaid kind ys k q old → Unlaid kind ys K P old
+      low_unlaid old none room h = none (omega (arith, two)) (splits.1 h).0
+
+      module _ (old mid : Buckets) (low : LaidBehind kind ys k q old mid) where
+        pub high_unlaid : Unlaid kind ys k' q' mid → Unlaid kind ys K P old
+        high_unlaid none room h = none (omega (arith, two, low.longer)) (splits.1 h).1
+
+        pub both_behind : (new : Buckets) → LaidBehind kind ys k' q' mid new → LaidBehind kind ys K P old new
+        both_behind new high =
+            let A = leaves (by_key kind) k q ys in
+            let B = leaves (by_key kind) k' q' ys in
+            record {
+              held = splits.2 low.held high.held;
+              blocks = high.blocks ∙ ap (λ zs. zs ++ map (leaf_block kind ys) B) low.blocks ∙ append_assoc old.items (map (leaf_block kind ys) A) (map (leaf_block kind ys) B)
+                  ∙ ap (λ zs. old.items ++ zs) (sym (map-append (leaf_block kind ys) A B) ∙ ap (map (leaf_block kind ys)) (sym splits.0));
+              longer = omega (arith, high.longer, low.longer, two);
+            }
 
   -- the records of a heavy prefix, cut where the low half ends
-  module _ (s : Sorted kind ys) (rs : List (List ℕ)) (from to middle k p : ℕ) (e : span from to rs ≡ under (by_key kind) (suc k) p ys)
+  module _ (K p k q k' q' : ℕ) (z : k + 1 ≡ K) (z' : k' + 1 ≡ K) (w : q ≡ 2 * p) (w' : q' ≡ 2 * p + 1)
+      (s : Sorted kind ys) (rs : List (List ℕ)) (from to middle : ℕ) (e₀ : span from to rs ≡ under (by_key kind) K p ys)
       (a : from ≤ middle) (b : middle ≤ to) (c : to ≤ length rs)
-      (low : (i : ℕ) → from ≤ i → i < middle → is_record (get_or rs i []) ≡ true → prefix_of k (kind.hash (key_of (get_or rs i []))) ≡ 2 * p)
-      (next : middle < to → is_record (get_or rs middle []) ≡ true → prefix_of k (kind.hash (key_of (get_or rs middle []))) ≡ 2 * p → ⊥) where
+      (low₀ : (i : ℕ) → from ≤ i → i < middle → is_record (get_or rs i []) ≡ true → prefix_of k (kind.hash (key_of (get_or rs i []))) ≡ q)
+      (next₀ : middle < to → is_record (get_or rs middle []) ≡ true → prefix_of k (kind.hash (key_of (get_or rs middle []))) ≡ q → ⊥) where
+    e : span from to rs ≡ under (by_key kind) (suc k) p ys
+    e = as_heavy K p k q k' q' z z' w w' (span from to rs) e₀
+
+    low : (i : ℕ) → from ≤ i → i < middle → is_record (get_or rs i []) ≡ true → prefix_of k (kind.hash (key_of (get_or rs i []))) ≡ 2 * p
+    low i l m r = low₀ i l m r ∙ w
+
+    next : middle < to → is_record (get_or rs middle []) ≡ true → prefix_of k (kind.hash (key_of (get_or rs middle []))) ≡ 2 * p → ⊥
+    next l r h = next₀ l r (h ∙ sym w)
+
     run-sorted : Sorted kind (span from to rs)
     run-sorted = subst (Sorted kind) (sym e) (sorted_under kind (suc k) p ys s)
 
@@ -144,16 +177,17 @@ module _ (kind : Kind) (ys : List (List ℕ)) where
         let w : q * 2 ^ k / 2 ^ suc k ≡ p = half_of k (q * 2 ^ k) ∙ ap (λ j. j / 2) z ∙ h in
         ap (under (by_key kind) k q) e ∙ subst (λ j. under (by_key kind) k j (under (by_key kind) (suc k) p ys) ≡ under (by_key kind) k j ys) z (under-under (by_key kind) k (suc k) (q * 2 ^ k) p ys (omega arith) w)
 
-    pub low_half : span from middle rs ≡ under (by_key kind) k (2 * p) ys
+    pub low_half : span from middle rs ≡ under (by_key kind) k q ys
     low_half =
         let cut = cut_low (by_key kind) k p (span from to rs) [] (rising_up kind _ (sorted_rising kind _ run-sorted)) inside (middle - from) (omega (arith, length-between rs from to c)) low-at next-at in
-        sym (take-take (middle - from) (to - from) (drop from rs) (omega arith)) ∙ cut ∙ half (2 * p) (omega arith)
+        sym (take-take (middle - from) (to - from) (drop from rs) (omega arith)) ∙ cut ∙ half (2 * p) (omega arith) ∙ ap (λ n. under (by_key kind) k n ys) (sym w)
 
-    pub high_half : span middle to rs ≡ under (by_key kind) k (2 * p + 1) ys
+    pub high_half : span middle to rs ≡ under (by_key kind) k' q' ys
     high_half =
         let cut = cut_high (by_key kind) k p (span from to rs) [] (rising_up kind _ (sorted_rising kind _ run-sorted)) inside (middle - from) (omega (arith, length-between rs from to c)) low-at next-at in
         let w : to - from ≡ (middle - from) + (to - middle) = omega arith in
         let v : from + (middle - from) ≡ middle = omega arith in
         let back : span middle to rs ≡ drop (middle - from) (span from to rs) =
         sym (ap (λ j. drop (middle - from) (take j (drop from rs))) w ∙ drop-take (middle - from) (to - middle) (drop from rs) ∙ ap (take (to - middle)) (drop-drop (middle - from) from rs) ∙ ap (λ j. take (to - middle) (drop j rs)) v) in
-        back ∙ cut ∙ half (2 * p + 1) (omega arith)
+        let same : k ≡ k' = omega arith in
+        back ∙ cut ∙ half (2 * p + 1) (omega arith) ∙ ap (λ n. under (by_key kind) k n ys) (sym w') ∙ ap (λ j. under (by_key kind) j q' ys) same

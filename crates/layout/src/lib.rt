@@ -1,9 +1,11 @@
 // Laying records out in buckets, in memory.
 #![tactic(auto)]
 
-mod list;
+mod branch;
+mod part;
 mod splitting;
 mod table;
 
-pub use splitting::{lay_out, slot_prefix};
+pub use branch::Branch;
+pub use splitting::lay_out;
 pub use table::Buckets;

@@ -1,91 +1,51 @@
-ghost use Rattle.std.specs.Prelude.{◌≡◌, ℕ, ◌+◌, ◌-◌, ◌*◌, ◌/◌, ◌^◌, ◌<◌, ◌≤◌, true, ◌&&◌, List, [], length, if◌then◌else◌, Some, None, MatchOption, ◌≢◌, nat_le, nat_lt, slice_index_or};
-ghost use Rattle.records.specs.Records.{is_record, key_of};
+ghost use Rattle.std.specs.Prelude.{◌≡◌, ℕ, ◌/◌, ◌^◌, ◌<◌, ◌≤◌, true, List, [], length, MatchOption, ◌≢◌, slice_index_or};
+ghost use Rattle.records.specs.Records.{is_record, key_of, load};
 ghost use Rattle.records.specs.Searches.{Sorted};
-ghost use Rattle.shape.specs.Shapes.{under, prefix_of};
+ghost use Rattle.shape.specs.Shapes.{under, prefix_of, Held};
 ghost use Rattle.shape.specs.Keyed.{by_key};
-ghost use Rattle.index.specs.Stored.{prefix_at};
-ghost use Rattle.records.specs.Records.{load};
-ghost use Rattle.shape.specs.Shapes.{Held};
-ghost use Rattle.layout.specs.Laid.{span, SplitInto, LaidOut};
+ghost use Rattle.layout.specs.Laid.{span, Unlaid, LaidBehind, LaidOut};
 
+use crate::branch::Branch;
+use crate::part::Part;
 use crate::table::Buckets;
-use buckets::{Prefix, Run, Source, build};
+use buckets::{Run, Source, build};
 use kinds::KeyKind;
-use records::read_record;
 
-// The prefix of a record's hash that leaves `room` of 7 bits.
-fn prefix_of<K: KeyKind>(bytes: &[u8], room: u8) -> u64
-    requires { room ≤ 7 }
-    ensures { is_record bytes.now ≡ true → result ≡ prefix_of room (K.KeyKind.kind.hash (key_of bytes.now)) }
-{
-    match read_record(bytes) {
-        Some(parts) => u64::from(K::hash(parts.key)) >> (25 + room),
-        None => 0,
-    }
-}
-
-// A prefix as a bucket block has it.
-fn prefix_at(room: u8, prefix: u64) -> Prefix
-    requires { (room ≤ 7) × ((prefix + 1) * 2 ^ room ≤ 128) }
-    ensures { result ≡ prefix_at room prefix }
-{
-    Prefix {
-        bits: 7 - room,
-        top: (prefix << (25 + room)) as u32,
-    }
-}
-
-// The prefix of a slot that leaves `room` bits, where there is such a slot and prefix.
-pub fn slot_prefix(slot: u8, room: u8) -> Option<Prefix>
-    ensures { result ≡ (if nat_lt slot 128 && nat_le room 7 then Some (prefix_at room (slot / 2 ^ room)) else None) }
-{
-    if slot >= 128 || room > 7 {
-        return None;
-    }
-    Some(prefix_at(room, u64::from(slot >> room)))
-}
-
-// Where the records with another prefix than `low` begin, from a place on.
-fn cut<K: KeyKind, S: Source>(source: &S, from: usize, to: usize, low: u64, room: u8) -> usize
-    requires { (room ≤ 7) × (from ≤ to) }
+// Where the records with another prefix than the low half's begin, from a place on.
+fn cut<K: KeyKind, S: Source>(source: &S, from: usize, to: usize, low: Part) -> usize
+    requires { from ≤ to }
     ensures after { from ≤ result }
     ensures within { result ≤ to }
-    ensures low { (i : ℕ) → from ≤ i → i < result → is_record (slice_index_or (S.Source.records source.now) i []) ≡ true → prefix_of room (K.KeyKind.kind.hash (key_of (slice_index_or (S.Source.records source.now) i []))) ≡ low }
-    ensures next { result < to → is_record (slice_index_or (S.Source.records source.now) result []) ≡ true → prefix_of room (K.KeyKind.kind.hash (key_of (slice_index_or (S.Source.records source.now) result []))) ≢ low }
+    ensures low { (i : ℕ) → from ≤ i → i < result → is_record (slice_index_or (S.Source.records source.now) i []) ≡ true → prefix_of low.room (K.KeyKind.kind.hash (key_of (slice_index_or (S.Source.records source.now) i []))) ≡ low.prefix }
+    ensures next { result < to → is_record (slice_index_or (S.Source.records source.now) result []) ≡ true → prefix_of low.room (K.KeyKind.kind.hash (key_of (slice_index_or (S.Source.records source.now) result []))) ≢ low.prefix }
 {
-    let mut n = from;
-    while n < to && prefix_of::<K>(source.record(n), room) == low {
-        n += 1;
+    for n in from..to {
+        if !low.has::<K>(source.record(n)) {
+            return n;
+        }
     }
-    n
+    to
 }
 
 // Lays the records from one place up to another out in buckets: a heavy prefix is cut into its two
-// halves. No where they cannot be held.
+// halves. Nothing where they cannot be held.
 fn split<K: KeyKind, S: Source>(
     source: &S,
     from: usize,
     to: usize,
-    room: u8,
-    prefix: u64,
+    part: Part,
     laid: &mut Buckets,
-) -> bool
-    requires deep { room ≤ 7 }
-    requires small { (prefix + 1) * 2 ^ room ≤ 128 }
-    requires within { (from ≤ to) × (to ≤ length (S.Source.records source.now)) }
-    ensures { (ys : List (List ℕ)) → Sorted K.KeyKind.kind ys → span from to (S.Source.records source.now) ≡ under (by_key K.KeyKind.kind) room prefix ys → SplitInto K.KeyKind.kind ys room prefix laid.old laid.new result }
+) -> Option<()>
+    requires { (from ≤ to) × (to ≤ length (S.Source.records source.now)) }
+    ensures { (ys : List (List ℕ)) → Sorted K.KeyKind.kind ys → span from to (S.Source.records source.now) ≡ under (by_key K.KeyKind.kind) part.room part.prefix ys → MatchOption result (Unlaid K.KeyKind.kind ys part.room part.prefix laid.old) (λ _. LaidBehind K.KeyKind.kind ys part.room part.prefix laid.old laid.new) }
 {
-    if let Some(block) = build(prefix_at(room, prefix), &Run { source, from, to }) {
-        return laid.push(block);
+    if let Some(block) = build(part.prefix(), &Run { source, from, to }) {
+        return laid.try_push(block).ok();
     }
-    if room == 0 {
-        return false;
-    }
-    let middle = cut::<K, S>(source, from, to, 2 * prefix, room - 1);
-    if !split::<K, S>(source, from, middle, room - 1, 2 * prefix, laid) {
-        return false;
-    }
-    split::<K, S>(source, middle, to, room - 1, 2 * prefix + 1, laid)
+    let (low, high) = part.halves()?;
+    let middle = cut::<K, S>(source, from, to, low);
+    split::<K, S>(source, from, middle, low, laid)?;
+    split::<K, S>(source, middle, to, high, laid)
 }
 
 // The buckets of a source's records under the prefix of a slot that leaves `room` bits, or nothing
@@ -93,14 +53,8 @@ fn split<K: KeyKind, S: Source>(
 pub fn lay_out<K: KeyKind, S: Source>(source: &S, slot: u8, room: u8) -> Option<Buckets>
     ensures { (ys : List (List ℕ)) → Sorted K.KeyKind.kind ys → slot < 128 → room ≤ 7 → load (S.Source.records source.now) ≤ 1008 → S.Source.records source.now ≡ under (by_key K.KeyKind.kind) room (slot / 2 ^ room) ys → MatchOption result (Held (by_key K.KeyKind.kind) room (slot / 2 ^ room) ys → ⊥) (LaidOut K.KeyKind.kind ys room (slot / 2 ^ room)) }
 {
-    if slot >= 128 || room > 7 {
-        return None;
-    }
+    let part = Branch::new(slot, room)?.part();
     let mut laid = Buckets::new();
-    let prefix = u64::from(slot >> room);
-    if split::<K, S>(source, 0, source.count(), room, prefix, &mut laid) {
-        Some(laid)
-    } else {
-        None
-    }
+    split::<K, S>(source, 0, source.count(), part, &mut laid)?;
+    Some(laid)
 }

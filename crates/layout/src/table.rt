@@ -1,12 +1,4 @@
-ghost use Rattle.std.specs.Prelude.{◌≤◌};
+use arrayvec::ArrayVec;
 
-// How many buckets one change makes at most: one for each prefix length.
-pub const MAX_BUCKETS: usize = 8;
-
-// Bucket blocks in order.
-#[derive(Drop)]
-pub struct Buckets {
-    pub(crate) blocks: [[u8; 512]; 8],
-    pub(crate) len: usize,
-    ghost few: { len ≤ 8 },
-}
+// Bucket blocks in order: a change makes at most one for each prefix length.
+pub type Buckets = ArrayVec<[u8; 512], 8>;

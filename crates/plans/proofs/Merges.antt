@@ -1,11 +1,14 @@
 -- A bucket and the one beside it.
-use Rattle.std.proofs.Common.{◌≡◌, ℕ, zero, suc, ◌+◌, ◌-◌, ◌*◌, ◌/◌, ◌%◌, ◌^◌, ◌<◌, ◌≤◌, Bool, true, false, cond, eqb, List, [], ◌∷◌, ◌++◌, get_or, sym, ap, ◌∙◌, subst, ⊎_elim, arith}
+use Rattle.std.proofs.Common.{◌≡◌, ℕ, zero, suc, ◌+◌, ◌-◌, ◌*◌, ◌/◌, ◌%◌, ◌^◌, ◌<◌, ◌≤◌, Bool, true, false, cond, eqb, leb, List, [], ◌∷◌, ◌++◌, get_or, Some, None, sym, refl, ap, ◌∙◌, subst, ⊎_elim, arith}
 use Rattle.std.proofs.lemmas.Nat.{div-add-mod'}
 use Rattle.std.proofs.lemmas.List.{map-append}
 use Rattle.std.proofs.lemmas.Bool.{cases_lt, cases_eq, cases_Bool, both_ways, eqb-true, eqb-false, eq-eqb, cond-true, cond-false, leb-true}
 use Rattle.kinds.specs.Kinds.{Kind}
 use Rattle.records.specs.Items.{records_in}
+use Rattle.records.specs.Records.{load}
 use Rattle.records.proofs.Rising.{sorted_rising}
+use Rattle.buckets.specs.declared.prefix.Prefix.{Prefix}
+use Rattle.buckets.specs.Blocks.{bucket_bytes}
 use Rattle.buckets.proofs.Held.{records_back}
 use Rattle.shape.specs.Shapes.{under, is_light}
 use Rattle.shape.specs.Buckets.{leaves, first_slot}
@@ -16,7 +19,8 @@ use Rattle.shape.proofs.Cuts.{under_halves}
 use Rattle.index.specs.Stored.{Blocks, block, slots, room_at, prefix_at, Stored, BucketIn, pointers, times}
 use Rattle.index.proofs.Reading.{load-sum}
 use Rattle.layout.proofs.Splits.{rising_up}
-use Rattle.plans.specs.Merging.{in_order, Under}
+use Rattle.plans.specs.Merging.{in_order, Under, Joins}
+use Rattle.plans.proofs.Choosing.{some_told, none_told}
 use Rattle.plans.proofs.Places.{number_is, bits_is, room_is, holds-is}
 
 pub times-append : (b : ℕ) (xs ys : List ℕ) → times b (xs ++ ys) ≡ times b xs + times b ys
@@ -139,3 +143,20 @@ module _ (kind : Kind) (blocks : Blocks) (head : ℕ) (header : List ℕ) (old n
           let tl : t / 2 ^ k ≡ 2 * P = omega (arith, half_of k s, near, apart) in
           omega (arith, whole, beside-one, ap (λ n. times x (at (leaves (by_key kind) k n old))) sl, ap (λ n. times x (at (leaves (by_key kind) k n old))) tl))
           (cases_eq (s / 2 ^ k) (2 * P))
+
+      module _ (xs : List (List ℕ)) (x-is : xs ≡ in_order (eqb (s / 2 ^ k % 2) 0) (records_in bytes) (records_in beside)) where
+        light-is : is_light (by_key kind) (suc k) (s / 2 ^ suc k) new ≡ leb (load xs) 504
+        light-is = ap (λ n. leb n 504) (sym (load-sum (under (by_key kind) (suc k) (s / 2 ^ suc k) new))) ∙ ap (λ ys. leb (load ys) 504) (sym (x-is ∙ joined _ refl))
+
+        -- the two together are light: their block is that of the shorter prefix
+        pub joins : (prefix : Prefix) (block : List ℕ) → prefix ≡ prefix_at (suc k) (s / 2 ^ suc k) → Some block ≡ cond (leb (load xs) 504) (Some (bucket_bytes prefix xs)) None → Joins kind header old new s k (record { number = number; block = block })
+        joins prefix block p e =
+            let told = some_told (leb (load xs) 504) block (bucket_bytes prefix xs) e in
+            record {
+              light = light-is ∙ told.0;
+              bytes = told.1 ∙ ap (λ q. bucket_bytes q xs) p ∙ ap (bucket_bytes (prefix_at (suc k) (s / 2 ^ suc k))) (x-is ∙ joined _ refl);
+              named = named;
+            }
+
+        pub heavy_two : (prefix : Prefix) → None ≡ cond (leb (load xs) 504) (Some (bucket_bytes prefix xs)) None → is_light (by_key kind) (suc k) (s / 2 ^ suc k) new ≡ false
+        heavy_two prefix e = light-is ∙ none_told (leb (load xs) 504) (bucket_bytes prefix xs) e

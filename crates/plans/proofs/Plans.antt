@@ -9,14 +9,13 @@ use Rattle.shape.specs.Keyed.{by_key}
 use Rattle.shape.proofs.Halves.{held_light}
 use Rattle.shape.proofs.Rooms.{prefix_up, room_le, room_above, heavy_up}
 use Rattle.shape.proofs.Leaves.{leaves_light, length-leaves}
-use Rattle.index.specs.Stored.{Blocks, block, slots, room_at, bucket_at, pointers, times}
+use Rattle.index.specs.Stored.{Blocks, block, slots, bucket_at, pointers, times}
 use Rattle.index.proofs.Reading.{load-sum, slot_small}
-use Rattle.layout.specs.declared.table.Buckets.{Buckets}
-use Rattle.layout.specs.Laid.{blocks_of, leaf_block, LaidOut}
+use Rattle.arrayvec.specs.ArrayVec.{ArrayVec}
+use Rattle.layout.specs.Laid.{Buckets, leaf_block, LaidOut}
 use Rattle.plans.specs.declared.located.Located.{Located}
 use Rattle.plans.specs.declared.merge.Merge.{Merge}
-use Rattle.plans.specs.declared.plan.Plan.{Plan}
-use Rattle.plans.specs.Planned.{Differ, HeavyAbove, Planned, numbers_of}
+use Rattle.plans.specs.Planned.{Differ, HeavyAbove, Planned}
 use Rattle.plans.specs.Merging.{Under, Merged}
 use Rattle.plans.specs.Editing.{Edited}
 use Rattle.plans.proofs.Counts.{few_records}
@@ -32,20 +31,20 @@ held_new kind s K old new before differ here q e = ⊎_elim
     (cases_eq (q / 2 ^ K) (s / 2 ^ K))
 
 -- one light bucket, laid out alone
-pub laid_one : (kind : Kind) (new : List (List ℕ)) (k p : ℕ) (laid : Buckets) → is_light (by_key kind) k p new ≡ true → blocks_of laid ≡ bucket_at kind new k p ∷ [] → laid.len ≡ 1 → LaidOut kind new k p laid
-laid_one kind new k p laid light blocks long =
+pub laid_one : (kind : Kind) (new : List (List ℕ)) (k p : ℕ) (laid : Buckets) → is_light (by_key kind) k p new ≡ true → laid.items ≡ bucket_at kind new k p ∷ [] → LaidOut kind new k p laid
+laid_one kind new k p laid light blocks =
     let one = leaves_light (by_key kind) k p new light in
     record {
       held = held_light (by_key kind) new k p (leb-true _ _ light);
       blocks = blocks ∙ ap (map (leaf_block kind new)) (sym one);
-      long = long ∙ sym (sym (length-leaves (by_key kind) k p new) ∙ ap length one);
+      long = ap length blocks ∙ sym (sym (length-leaves (by_key kind) k p new) ∙ ap length one);
     }
 
 module _ (kind : Kind) (blocks : Blocks) (head : ℕ) (old new : List (List ℕ)) (at : Located) (changed : List (List ℕ)) (count : ℕ) (e : Edited kind blocks head old new at changed count) (bounded : Bounded kind) where
-  changed_light : load changed ≤ 504 → is_light (by_key kind) at.room (at.slot / 2 ^ at.room) new ≡ true
+  changed_light : load changed ≤ 504 → is_light (by_key kind) at.branch.room (at.branch.slot / 2 ^ at.branch.room) new ≡ true
   changed_light l = le-leb _ _ (omega (arith, load-sum changed, ap (sum_by weight) e.there))
 
-  pub edited_under : (bytes : List ℕ) → load changed ≤ 504 → bytes ≡ bucket_at kind new at.room (at.slot / 2 ^ at.room) → Under kind blocks head at.header old new at.slot at.room bytes
+  pub edited_under : (bytes : List ℕ) → load changed ≤ 504 → bytes ≡ bucket_at kind new at.branch.room (at.branch.slot / 2 ^ at.branch.room) → Under kind blocks head at.header old new at.branch.slot at.branch.room bytes
   edited_under bytes l b = record {
     stored = e.stored;
     read = e.read;
@@ -57,67 +56,50 @@ module _ (kind : Kind) (blocks : Blocks) (head : ℕ) (old new : List (List ℕ)
     holds = b;
   }
 
-  pub planned_light : (merge : Merge) (laid : Buckets) → Merged kind at.header old new at.slot merge → blocks_of laid ≡ merge.block ∷ [] → laid.len ≡ 1
-      → (plan : Plan) → plan.header ≡ at.header → plan.slot ≡ at.slot → plan.room ≡ merge.room → plan.start ≡ at.room → plan.number ≡ at.number → numbers_of plan.given ≡ numbers_of merge.given → plan.laid ≡ laid → plan.count ≡ count
-      → Planned kind (block blocks head) old new plan
-  planned_light merge laid g bs n plan ph ps pr pt pn pg pl pc =
-      let K = merge.room in
-      let s = at.slot in
-      let lay = laid_one kind new K (s / 2 ^ K) laid g.light (bs ∙ ap (λ x. x ∷ []) g.bytes) n in
+  -- the buckets under a prefix of the slot, laid out in place of those that were there
+  planned : (K : ℕ) (given : ArrayVec ℕ) (laid : Buckets) → K ≤ 7 → HeavyAbove kind at.branch.slot K old new → LaidOut kind new K (at.branch.slot / 2 ^ K) laid
+      → ((b : ℕ) → times b (get_or (slots (block blocks head)) at.branch.slot 0 ∷ given.items) ≡ times b (pointers (block blocks head) (leaves (by_key kind) K (at.branch.slot / 2 ^ K) old)))
+      → Planned kind (block blocks head) old new (record { header = at.header; slot = at.branch.slot; room = K; start = at.branch.room; number = at.number; given = given; laid = laid; count = count })
+  planned K given laid deep heavy lay names =
+      let held = held_new kind at.branch.slot K old new e.stored.held e.differ lay.held in
       record {
-        read = ph ∙ e.read;
-        slot = subst (λ x. x < 128) (sym ps) e.slot;
-        deep = subst (λ x. x ≤ 7) (sym pr) g.deep;
-        start = pt ∙ e.room ∙ ap (room_at kind old) (sym ps);
+        read = e.read;
+        slot = e.slot;
+        deep = deep;
+        start = e.room;
         sorted = e.sorted;
-        held = held_new kind s K old new e.stored.held e.differ lay.held;
-        counted = pc ∙ e.counted;
-        countable = omega (arith, few_records kind bounded new e.sorted (held_new kind s K old new e.stored.held e.differ lay.held));
-        differ = subst (λ x. Differ kind x old new) (sym ps) e.differ;
-        heavy = subst (λ x. HeavyAbove kind x plan.room old new) (sym ps) (subst (λ x. HeavyAbove kind s x old new) (sym pr) g.heavy);
-        number = pn ∙ e.number ∙ ap (λ x. get_or (slots (block blocks head)) x 0) (sym ps);
-        laid = subst (λ x. LaidOut kind new plan.room (x / 2 ^ plan.room) plan.laid) (sym ps) (subst (λ k. LaidOut kind new k (s / 2 ^ k) plan.laid) (sym pr) (subst (LaidOut kind new K (s / 2 ^ K)) (sym pl) lay));
-        given = λ b.
-            ap (λ x. times b (x ∷ numbers_of plan.given)) (pn ∙ e.number ∙ ap (λ h. get_or (slots h) s 0) (sym e.read))
-            ∙ ap (λ xs. times b (get_or (slots at.header) s 0 ∷ xs)) pg ∙ g.given b
-            ∙ ap (λ h. times b (pointers h (leaves (by_key kind) K (s / 2 ^ K) old))) e.read
-            ∙ ap (λ k. times b (pointers (block blocks head) (leaves (by_key kind) k (s / 2 ^ k) old))) (sym pr)
-            ∙ ap (λ x. times b (pointers (block blocks head) (leaves (by_key kind) plan.room (x / 2 ^ plan.room) old))) (sym ps);
+        held = held;
+        counted = e.counted;
+        countable = omega (arith, few_records kind bounded new e.sorted held);
+        differ = e.differ;
+        heavy = heavy;
+        number = e.number;
+        laid = lay;
+        given = λ b. ap (λ n. times b (n ∷ given.items)) e.number ∙ names b;
       }
+
+  pub planned_light : (merge : Merge) (laid : Buckets) → Merged kind at.header old new at.branch.slot merge → laid.items ≡ merge.block ∷ []
+      → Planned kind (block blocks head) old new (record { header = at.header; slot = at.branch.slot; room = merge.room; start = at.branch.room; number = at.number; given = merge.given; laid = laid; count = count })
+  planned_light merge laid g one =
+      let K = merge.room in
+      let s = at.branch.slot in
+      planned K merge.given laid g.deep g.heavy (laid_one kind new K (s / 2 ^ K) laid g.light (one ∙ ap (λ x. x ∷ []) g.bytes))
+      (λ b. subst (λ h. times b (get_or (slots h) s 0 ∷ merge.given.items) ≡ times b (pointers h (leaves (by_key kind) K (s / 2 ^ K) old))) e.read (g.given b))
 
   -- a bucket that is too heavy, split
-  pub planned_split : (laid : Buckets) → LaidOut kind new at.room (at.slot / 2 ^ at.room) laid → 504 < load changed
-      → (plan : Plan) → plan.header ≡ at.header → plan.slot ≡ at.slot → plan.room ≡ at.room → plan.start ≡ at.room → plan.number ≡ at.number → numbers_of plan.given ≡ [] → plan.laid ≡ laid → plan.count ≡ count
-      → Planned kind (block blocks head) old new plan
-  planned_split laid lay h plan ph ps pr pt pn pg pl pc =
-      let K = at.room in
-      let s = at.slot in
+  pub planned_split : (given : ArrayVec ℕ) (laid : Buckets) → given.items ≡ [] → LaidOut kind new at.branch.room (at.branch.slot / 2 ^ at.branch.room) laid → 504 < load changed
+      → Planned kind (block blocks head) old new (record { header = at.header; slot = at.branch.slot; room = at.branch.room; start = at.branch.room; number = at.number; given = given; laid = laid; count = count })
+  planned_split given laid none lay h =
+      let K = at.branch.room in
+      let s = at.branch.slot in
       let heavy : is_light (by_key kind) K (s / 2 ^ K) new ≡ false = lt-leb _ _ (omega (arith, load-sum changed, ap (sum_by weight) e.there)) in
-      record {
-        read = ph ∙ e.read;
-        slot = subst (λ x. x < 128) (sym ps) e.slot;
-        deep = subst (λ x. x ≤ 7) (sym pr) (omega (arith, e.room, room_le (by_key kind) 7 old s));
-        start = pt ∙ e.room ∙ ap (room_at kind old) (sym ps);
-        sorted = e.sorted;
-        held = held_new kind s K old new e.stored.held e.differ lay.held;
-        counted = pc ∙ e.counted;
-        countable = omega (arith, few_records kind bounded new e.sorted (held_new kind s K old new e.stored.held e.differ lay.held));
-        differ = subst (λ x. Differ kind x old new) (sym ps) e.differ;
-        heavy = subst (λ x. HeavyAbove kind x plan.room old new) (sym ps) (subst (λ x. HeavyAbove kind s x old new) (sym pr)
-            (λ j l b. (room_above (by_key kind) 7 old s j (omega (arith, e.room)) b, heavy_up (by_key kind) K j s new (omega arith) heavy)));
-        number = pn ∙ e.number ∙ ap (λ x. get_or (slots (block blocks head)) x 0) (sym ps);
-        laid = subst (λ x. LaidOut kind new plan.room (x / 2 ^ plan.room) plan.laid) (sym ps) (subst (λ k. LaidOut kind new k (s / 2 ^ k) plan.laid) (sym pr) (subst (LaidOut kind new K (s / 2 ^ K)) (sym pl) lay));
-        given = λ b.
-            ap (λ x. times b (x ∷ numbers_of plan.given)) (pn ∙ e.number)
-            ∙ ap (λ xs. times b (get_or (slots (block blocks head)) s 0 ∷ xs)) pg
-            ∙ ap (times b) (sym (bucket-leaves kind blocks head old e.stored s K e.slot (sym e.room)))
-            ∙ ap (λ k. times b (pointers (block blocks head) (leaves (by_key kind) k (s / 2 ^ k) old))) (sym pr)
-            ∙ ap (λ x. times b (pointers (block blocks head) (leaves (by_key kind) plan.room (x / 2 ^ plan.room) old))) (sym ps);
-      }
+      planned K given laid (omega (arith, e.room, room_le (by_key kind) 7 old s))
+      (λ j l b. (room_above (by_key kind) 7 old s j (omega (arith, e.room)) b, heavy_up (by_key kind) K j s new (omega arith) heavy)) lay
+      (λ b. ap (λ xs. times b (get_or (slots (block blocks head)) s 0 ∷ xs)) none ∙ ap (times b) (sym (bucket-leaves kind blocks head old e.stored s K e.slot (sym e.room))))
 
   -- where it cannot be split, the records cannot be held
-  pub not_held : (Held (by_key kind) at.room (at.slot / 2 ^ at.room) new → ⊥) → Held (by_key kind) 7 0 new → ⊥
+  pub not_held : (Held (by_key kind) at.branch.room (at.branch.slot / 2 ^ at.branch.room) new → ⊥) → Held (by_key kind) 7 0 new → ⊥
   not_held none h = none (λ q z. h q (slot-near q z))
     where
-      slot-near : (q : ℕ) → q / 2 ^ at.room ≡ at.slot / 2 ^ at.room → q / 2 ^ 7 ≡ 0
-      slot-near q z = prefix_up at.room 7 q at.slot (omega (arith, e.room, room_le (by_key kind) 7 old at.slot)) z ∙ slot_small at.slot e.slot
+      slot-near : (q : ℕ) → q / 2 ^ at.branch.room ≡ at.branch.slot / 2 ^ at.branch.room → q / 2 ^ 7 ≡ 0
+      slot-near q z = prefix_up at.branch.room 7 q at.branch.slot (omega (arith, e.room, room_le (by_key kind) 7 old at.branch.slot)) z ∙ slot_small at.branch.slot e.slot

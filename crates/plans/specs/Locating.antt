@@ -1,5 +1,5 @@
 -- Where a key stands in an index that blocks store.
-use Rattle.std.specs.Prelude.{◌≡◌, ℕ, ◌/◌, ◌^◌, ◌<◌, ◌≤◌, true, false, ◌≢◌, List, length, slice_index}
+use Rattle.std.specs.Prelude.{◌≡◌, ℕ, ◌/◌, ◌^◌, ◌<◌, ◌≤◌, ◌≢◌, List, length, Ok, Err, Result, slice_index}
 use Rattle.std.specs.declared.cmp.Ordering.TheVariants.{Equal}
 use Rattle.kinds.specs.Kinds.{Kind}
 use Rattle.records.specs.Items.{records_in}
@@ -9,14 +9,16 @@ use Rattle.shape.specs.Keyed.{by_key}
 use Rattle.index.specs.Stored.{Blocks, block, slots, room_at}
 use Rattle.plans.specs.declared.located.Located.{Located}
 
+-- a key's place among sorted records, or where it goes
+abbrev pub PlacedAt : Kind → List (List ℕ) → List ℕ → Result ℕ ℕ → Type 0
+PlacedAt kind records key (Ok n) = Goes kind records key n × (n < length records) × (kind.order (key_at records n) key ≡ Equal)
+PlacedAt kind records key (Err n) = Goes kind records key n × (n ≤ length records) × (n < length records → kind.order (key_at records n) key ≢ Equal)
+
 pub record LocatedIn (kind : Kind) (blocks : Blocks) (head : ℕ) (records : List (List ℕ)) (key : List ℕ) (at : Located) : Type 0 where
   pub header : at.header ≡ block blocks head
   pub count : at.count ≡ length records
-  pub slot : at.slot ≡ kind.hash key / 2 ^ 25
-  pub room : at.room ≡ room_at kind records at.slot
-  pub number : at.number ≡ slice_index (slots (block blocks head)) at.slot
-  pub holds : records_in at.block ≡ under (by_key kind) at.room (at.slot / 2 ^ at.room) records
-  pub within : at.place ≤ length (records_in at.block)
-  pub goes : Goes kind (records_in at.block) key at.place
-  pub here : at.found ≡ true → (at.place < length (records_in at.block)) × (kind.order (key_at (records_in at.block) at.place) key ≡ Equal)
-  pub absent : at.found ≡ false → at.place < length (records_in at.block) → kind.order (key_at (records_in at.block) at.place) key ≢ Equal
+  pub slot : at.branch.slot ≡ kind.hash key / 2 ^ 25
+  pub room : at.branch.room ≡ room_at kind records at.branch.slot
+  pub number : at.number ≡ slice_index (slots (block blocks head)) at.branch.slot
+  pub holds : records_in at.block ≡ under (by_key kind) at.branch.room (at.branch.slot / 2 ^ at.branch.room) records
+  pub placed : PlacedAt kind (records_in at.block) key at.place

@@ -1,20 +1,20 @@
 ghost use Rattle.std.specs.Prelude.{◌≡◌, ◌-◌, ◌≤◌};
-ghost use Rattle.plans.specs.Planned.{numbers_of};
+ghost use Rattle.arrayvec.specs.ArrayVec.{array_vec_len};
 
 use crate::plan::Plan;
 
 impl Plan {
     // How many spare blocks it takes: one for each bucket but the first, which stays in its block.
     pub fn taken(&self) -> usize
-        ensures value { result ≡ self.now.laid.len - 1 }
-        ensures few { self.now.laid.len ≤ 8 }
+        ensures value { result ≡ array_vec_len self.now.laid - 1 }
+        ensures few { array_vec_len self.now.laid ≤ 8 }
     {
         self.laid.len().saturating_sub(1)
     }
 
     // Which blocks it gives up.
     pub fn given(&self) -> &[u16]
-        ensures { result.now ≡ numbers_of self.now.given }
+        ensures { result.now ≡ self.now.given.items }
     {
         self.given.as_slice()
     }

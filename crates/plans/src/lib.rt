@@ -2,7 +2,6 @@
 #![tactic(auto)]
 
 mod extent;
-mod list;
 mod located;
 mod locating;
 mod merge;

@@ -1,28 +1,35 @@
-ghost use Rattle.std.specs.Prelude.{◌≡◌, ℕ, ◌<◌, true, false, ◌≢◌, List, [], length, MatchResult, slice_index_or};
-ghost use Rattle.std.specs.declared.cmp.Ordering.TheVariants.{Equal as Alike};
+ghost use Rattle.std.specs.Prelude.{◌≡◌, ℕ, ◌+◌, ◌/◌, ◌^◌, ◌≤◌, true, List, MatchOption, MatchResult, slice_index};
 ghost use Rattle.records.specs.Items.{records_in};
-ghost use Rattle.records.specs.Records.{is_record};
-ghost use Rattle.records.specs.Searches.{key_at};
+ghost use Rattle.records.specs.Searches.{Sorted};
 ghost use Rattle.index.specs.Stored.{Stored};
-ghost use Rattle.plans.specs.Locating.{LocatedIn};
+ghost use Rattle.plans.specs.Locating.{PlacedAt, LocatedIn};
 
 use crate::located::Located;
 use device::Device;
 use header::count_in;
-use index::{Fault, read_block, read_bucket};
+use index::{Bucket, Fault, read_block, read_bucket};
 use kinds::KeyKind;
+use layout::Branch;
 use records::{bucket_key, place_for};
 use std::cmp::Ordering;
 
-// Whether the record at a place of a bucket has an alike key.
-fn is_at<K: KeyKind>(block: &[u8], place: usize, key: &[u8]) -> bool
-    ensures found { result ≡ true → (place < length (records_in block.now)) × (K.KeyKind.kind.order (key_at (records_in block.now) place) key.now ≡ Alike) }
-    ensures other { result ≡ false → is_record (slice_index_or (records_in block.now) place []) ≡ true → K.KeyKind.kind.order (key_at (records_in block.now) place) key.now ≢ Alike }
+// The place of an alike key in a bucket block, or where the key would stand.
+fn place_in<K: KeyKind>(block: &[u8], key: &[u8]) -> Result<usize, usize>
+    ensures { Sorted K.KeyKind.kind (records_in block.now) → K.KeyKind.kind.lawful key.now ≡ true → PlacedAt K.KeyKind.kind (records_in block.now) key.now result }
 {
+    let place = place_for::<K>(block, key);
     match bucket_key(block, place) {
-        Some(found) => K::compare(found, key) == Ordering::Equal,
-        None => false,
+        Some(found) if K::compare(found, key) == Ordering::Equal => Ok(place),
+        _ => Err(place),
     }
+}
+
+// The prefix of a hash that a bucket block has.
+fn branch_in(block: &[u8; 512], hash: u32) -> Option<Branch>
+    ensures { MatchOption result (slice_index block.now 1 ≤ 7 → ⊥) (λ b. (b.slot ≡ hash / 2 ^ 25) × (b.room + slice_index block.now 1 ≡ 7)) }
+{
+    let room = 7u8.checked_sub(block[1])?;
+    Branch::new((hash >> 25) as u8, room)
 }
 
 // Finds the bucket of a lawful key, and the key's place in it.
@@ -35,25 +42,17 @@ pub(crate) fn locate<D: Device, K: KeyKind>(
     ensures { (rs : List (List ℕ)) → Stored K.KeyKind.kind (D.Device.contents device.now) head rs → MatchResult result (LocatedIn K.KeyKind.kind (D.Device.contents device.now) head rs key.now) (λ _. ⊥) }
 {
     let header = read_block(device, head)?;
-    let Some(count) = count_in(&header) else {
-        return Err(Fault::Broken);
-    };
+    let count = count_in(&header).ok_or(Fault::Broken)?;
     let hash = K::hash(key);
-    let bucket = read_bucket(device, &header, hash)?;
-    let bits = bucket.block[1];
-    if bits > 7 {
-        return Err(Fault::Broken);
-    }
-    let place = place_for::<K>(&bucket.block, key);
-    let found = is_at::<K>(&bucket.block, place, key);
+    let Bucket { number, block } = read_bucket(device, &header, hash)?;
+    let branch = branch_in(&block, hash).ok_or(Fault::Broken)?;
+    let place = place_in::<K>(&block, key);
     Ok(Located {
         header,
         count,
-        slot: (hash >> 25) as u8,
-        number: bucket.number,
-        block: bucket.block,
-        room: 7 - bits,
+        branch,
+        number,
+        block,
         place,
-        found,
     })
 }

@@ -1,9 +1,4 @@
-ghost use Rattle.std.specs.Prelude.{◌≤◌};
+use arrayvec::ArrayVec;
 
 // A few block numbers.
-#[derive(Clone, Copy)]
-pub struct Numbers {
-    pub(crate) list: [u16; 8],
-    pub(crate) len: usize,
-    ghost few: { len ≤ 8 },
-}
+pub type Numbers = ArrayVec<u16, 8>;

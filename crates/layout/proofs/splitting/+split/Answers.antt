@@ -1,83 +1,64 @@
-use Rattle.std.proofs.Common.{◌≡◌, suc, ◌-◌, true, false, leb, sym, ap, ◌∙◌, subst, arith}
+use Rattle.std.proofs.Common.{◌≡◌, true, false, leb, sym, ap, ◌∙◌, subst, arith}
+use Rattle.std.proofs.lemmas.Result.{on_ok_weaker, on_err_weaker}
 use Rattle.buckets.specs.Blocks.{bucket_bytes}
 use Rattle.records.specs.Records.{load}
 use Rattle.shape.specs.Shapes.{under}
 use Rattle.shape.specs.Keyed.{by_key}
-use Rattle.shape.proofs.Halves.{small_halves}
-use Rattle.layout.specs.Laid.{span, SplitInto}
-use Rattle.layout.proofs.Splits.{leaf-into, dead_end, low-fails, both-into, low_half, high_half}
+use Rattle.layout.specs.Laid.{span, LaidBehind, Unlaid}
+use Rattle.layout.proofs.Splits.{pushed, either, leaf_behind, leaf_unlaid, dead_end, low_unlaid, high_unlaid, both_behind, low_half, high_half}
 use Rattle.layout.proofs.splitting.+split.Goals as goal
-
-pub overflow_mul-prefix : goal.overflow_mul-prefix
-overflow_mul-prefix g t c = let h = small_halves c.args.prefix c.args.room (omega arith) c.requires.small in omega arith
-
-pub overflow_mul-prefix-2 : goal.overflow_mul-prefix-2
-overflow_mul-prefix-2 g t c = let h = small_halves c.args.prefix c.args.room (omega arith) c.requires.small in omega arith
-
-pub overflow_mul-prefix-3 : goal.overflow_mul-prefix-3
-overflow_mul-prefix-3 g t c = let h = small_halves c.args.prefix c.args.room (omega arith) c.requires.small in omega arith
-
-pub overflow_add-prefix : goal.overflow_add-prefix
-overflow_add-prefix g t c = let h = small_halves c.args.prefix c.args.room (omega arith) c.requires.small in omega arith
-
-pub split-requires : goal.split-requires
-split-requires g t c κs within =
-    let h = small_halves c.args.prefix c.args.room (omega arith) c.requires.small in
-    (omega arith, (within.0, (within.1, (omega arith, (h.1, (c.cut-middle.ensures.after, omega arith))))))
-
-pub split-requires-2 : goal.split-requires-2
-split-requires-2 g t c κs within =
-    let h = small_halves c.args.prefix c.args.room (omega arith) c.requires.small in
-    (omega arith, (within.0, (within.1, (omega arith, (h.2, (omega arith, omega arith))))))
 
 pub returns-in-Some : goal.returns-in-Some
 returns-in-Some g t c = λ ys s e.
+    let kind = g.K.KeyKind.kind in
+    let part = c.args.part in
+    let laid = c.args.laid.now in
     let xs = span c.args.from c.args.to (g.S.Source.records c.args.source.now) in
     let told = c.in-Some.ensures.bytes in
     let light : leb (load xs) 504 ≡ true = grind arith in
-    let bytes : c.in-Some.block ≡ bucket_bytes c.prefix_at.result xs = grind arith in
-    leaf-into g.K.KeyKind.kind ys c.args.room c.args.prefix xs e c.in-Some.block c.args.laid.now c.push.new.self c.push.result
-    light (bytes ∙ ap (λ p. bucket_bytes p xs) c.prefix_at.ensures) c.push.ensures.fits c.push.ensures.laid c.push.ensures.len
+    let bytes : c.in-Some.block ≡ bucket_bytes c.prefix.result xs = grind arith in
+    pushed (LaidBehind kind ys part.room part.prefix laid c.try_push.new.self) (Unlaid kind ys part.room part.prefix laid) c.try_push.result c.ok.result c.ok.ensures.value
+    (on_ok_weaker c.try_push.result (leaf_behind kind ys part.room part.prefix xs e light laid c.in-Some.block c.try_push.new.self (bytes ∙ ap (λ p. bucket_bytes p xs) c.prefix.ensures)) c.try_push.ensures.ok)
+    (on_err_weaker c.try_push.result (leaf_unlaid kind ys part.room part.prefix xs e light laid) c.try_push.ensures.full)
 
-pub returns-then-room-eq0 : goal.returns-then-room-eq0
-returns-then-room-eq0 g t c = λ ys s e.
+pub returns-in_err-low : goal.returns-in_err-low
+returns-in_err-low g t c = λ ys s e.
     let kind = g.K.KeyKind.kind in
+    let part = c.args.part in
     let xs = span c.args.from c.args.to (g.S.Source.records c.args.source.now) in
     let told = c.in_default.ensures.bytes in
     let heavy : leb (load xs) 504 ≡ false = grind arith in
-    let z = c.if-room-eq0.true in
-    let laid = c.args.laid.now in
-    subst (λ k. SplitInto kind ys k c.args.prefix laid laid false) (sym z) (dead_end kind ys c.args.prefix xs laid (subst (λ k. xs ≡ under (by_key kind) k c.args.prefix ys) z e) heavy)
+    rw c.from_residual.ensures (subst (λ k. xs ≡ under (by_key kind) k part.prefix ys → Unlaid kind ys k part.prefix c.args.laid.now) (sym c.in_err-low.ensures)
+    (λ h. dead_end kind ys part.prefix xs c.args.laid.now h heavy) e)
 
-pub returns-then-not-split : goal.returns-then-not-split
-returns-then-not-split g t c = λ ys s e.
+pub returns-in_err-split : goal.returns-in_err-split
+returns-in_err-split g t c = λ ys s e.
     let kind = g.K.KeyKind.kind in
-    let rs = g.S.Source.records c.args.source.now in
-    let p = c.args.prefix in
-    let k = c.args.room - 1 in
-    let xs = span c.args.from c.args.to rs in
+    let part = c.args.part in
+    let low = c.in_ok-low.low in
+    let high = c.in_ok-low.high in
+    let h = c.in_ok-low.ensures in
+    let xs = span c.args.from c.args.to (g.S.Source.records c.args.source.now) in
     let told = c.in_default.ensures.bytes in
     let heavy : leb (load xs) 504 ≡ false = grind arith in
-    let z : c.args.room ≡ suc k = omega arith in
-    let e' : xs ≡ under (by_key kind) (suc k) p ys = subst (λ j. xs ≡ under (by_key kind) j p ys) z e in
     let cut = c.cut-middle.ensures in
-    let low = low_half kind ys s rs c.args.from c.args.to c.cut-middle.result k p e' cut.after cut.within c.requires.within.1 cut.low cut.next in
-    subst (λ j. SplitInto kind ys j p c.args.laid.now c.split.new.laid false) (sym z)
-    (low-fails kind ys k p xs e' heavy c.args.laid.now c.split.new.laid c.split.result c.if-not-split.true (c.split.ensures ys s low))
+    let first = low_half kind ys part.room part.prefix low.room low.prefix high.room high.prefix h.0 h.1 h.2 h.3 s (g.S.Source.records c.args.source.now) c.args.from c.args.to c.cut-middle.result e cut.after cut.within c.requires.1 cut.low cut.next in
+    rw c.from_residual-in_err-split.ensures (low_unlaid kind ys part.room part.prefix low.room low.prefix high.room high.prefix h.0 h.1 h.2 h.3 xs e heavy c.args.laid.now (c.in_err-split.ensures ys s first))
 
 pub returns : goal.returns
 returns g t c = λ ys s e.
     let kind = g.K.KeyKind.kind in
+    let part = c.args.part in
+    let low = c.in_ok-low.low in
+    let high = c.in_ok-low.high in
+    let h = c.in_ok-low.ensures in
     let rs = g.S.Source.records c.args.source.now in
-    let p = c.args.prefix in
-    let k = c.args.room - 1 in
-    let xs = span c.args.from c.args.to rs in
     let told = c.in_default.ensures.bytes in
-    let heavy : leb (load xs) 504 ≡ false = grind arith in
-    let z : c.args.room ≡ suc k = omega arith in
-    let e' : xs ≡ under (by_key kind) (suc k) p ys = subst (λ j. xs ≡ under (by_key kind) j p ys) z e in
+    let heavy : leb (load (span c.args.from c.args.to rs)) 504 ≡ false = grind arith in
     let cut = c.cut-middle.ensures in
-    let low = low_half kind ys s rs c.args.from c.args.to c.cut-middle.result k p e' cut.after cut.within c.requires.within.1 cut.low cut.next in
-    let high = high_half kind ys s rs c.args.from c.args.to c.cut-middle.result k p e' cut.after cut.within c.requires.within.1 cut.low cut.next in
-    subst (λ j. SplitInto kind ys j p c.args.laid.now c.split-2.new.laid c.split-2.result) (sym z)
-    (both-into kind ys k p xs e' heavy c.args.laid.now c.split.new.laid c.split-2.new.laid c.split.result c.split-2.result c.if-not-split.false (c.split.ensures ys s low) (c.split-2.ensures ys s high))
+    let first = low_half kind ys part.room part.prefix low.room low.prefix high.room high.prefix h.0 h.1 h.2 h.3 s rs c.args.from c.args.to c.cut-middle.result e cut.after cut.within c.requires.1 cut.low cut.next in
+    let last = high_half kind ys part.room part.prefix low.room low.prefix high.room high.prefix h.0 h.1 h.2 h.3 s rs c.args.from c.args.to c.cut-middle.result e cut.after cut.within c.requires.1 cut.low cut.next in
+    let behind = c.in_ok-split.ensures ys s first in
+    either c.split-2.result (c.split-2.ensures ys s last)
+    (high_unlaid kind ys part.room part.prefix low.room low.prefix high.room high.prefix h.0 h.1 h.2 h.3 (span c.args.from c.args.to rs) e heavy c.args.laid.now c.split.new.laid behind)
+    (λ _. both_behind kind ys part.room part.prefix low.room low.prefix high.room high.prefix h.0 h.1 h.2 h.3 (span c.args.from c.args.to rs) e heavy c.args.laid.now c.split.new.laid behind c.split-2.new.laid)

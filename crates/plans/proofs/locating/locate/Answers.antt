@@ -1,57 +1,57 @@
-use Rattle.std.proofs.Common.{◌≡◌, ℕ, ◌-◌, ◌/◌, ◌^◌, ◌<◌, length, get_or, Some, sym, ap, subst, arith}
+use Rattle.std.proofs.Common.{◌≡◌, ℕ, ◌/◌, ◌^◌, ◌<◌, length, get_or, Some, sym, ap, ◌∙◌, subst, arith}
 use Rattle.header.specs.Headers.{pointer_in, Encodes, deepest}
-use Rattle.index.specs.Stored.{block, slots, rooms}
+use Rattle.shape.specs.Shapes.{under}
+use Rattle.shape.specs.Keyed.{by_key}
+use Rattle.index.specs.Stored.{block, slots, rooms, room_at}
 use Rattle.index.proofs.Reading.{bucket-there}
 use Rattle.plans.proofs.Places.{number_is, bits_is, room_is, holds-is, holds-sorted}
 use Rattle.plans.proofs.locating.locate.Goals as goal
 
-pub returns-in_err-bucket : goal.returns-in_err-bucket
-returns-in_err-bucket g c = λ rs st.
+pub returns-in_err-number : goal.returns-in_err-number
+returns-in_err-number g c = λ rs st.
     let kind = g.K.KeyKind.kind in
     let blocks = g.D.Device.contents c.args.device.now in
     let key = c.args.key.now in
     let header = c.in_ok-header.header in
     let same : header ≡ block blocks c.args.head = c.in_ok-header.ensures.1 in
     let hashed : c.hash-hash.result ≡ kind.hash key = c.hash-hash.ensures in
-    let none : (n : ℕ) → n < length blocks → pointer_in header c.hash-hash.result ≡ Some n → ⊥ = c.in_err-bucket.ensures.1 in
+    let none : (n : ℕ) → n < length blocks → pointer_in header c.hash-hash.result ≡ Some n → ⊥ = c.in_err-number.ensures.1 in
     absurd (bucket-there kind blocks c.args.head rs st (kind.hash key) (g.met.K.KeyKind.bounded.narrow key c.requires)
     (subst (λ h. (n : ℕ) → n < length blocks → pointer_in h (kind.hash key) ≡ Some n → ⊥) same (subst (λ x. (n : ℕ) → n < length blocks → pointer_in header x ≡ Some n → ⊥) hashed none)))
 
-pub returns-then-bits-gt7 : goal.returns-then-bits-gt7
-returns-then-bits-gt7 g c = λ rs st.
+pub returns-in_err-branch : goal.returns-in_err-branch
+returns-in_err-branch g c = λ rs st.
     let kind = g.K.KeyKind.kind in
-    let blocks = g.D.Device.contents c.args.device.now in
-    let key = c.args.key.now in
     let header = c.in_ok-header.header in
-    let same : header ≡ block blocks c.args.head = c.in_ok-header.ensures.1 in
     let h = c.hash-hash.result in
     let l : h < 2 ^ 32 = omega arith in
-    let bucket = c.in_ok-bucket.bucket in
-    omega (arith, bits_is kind blocks c.args.head rs st h l header same bucket.number bucket.block c.in_ok-bucket.ensures, c.if-bits-gt7.true)
+    let bucket = c.in_ok-number.field-0 in
+    let none = rw c.in_err-branch.ensures.ok_part at c.branch_in.ensures in
+    absurd (none (omega (arith, bits_is kind (g.D.Device.contents c.args.device.now) c.args.head rs st h l header c.in_ok-header.ensures.1 bucket.number bucket.block c.in_ok-number.ensures)))
 
 pub returns : goal.returns
 returns g c = λ rs st.
     let kind = g.K.KeyKind.kind in
     let blocks = g.D.Device.contents c.args.device.now in
-    let key = c.args.key.now in
+    let head = c.args.head in
     let header = c.in_ok-header.header in
-    let same : header ≡ block blocks c.args.head = c.in_ok-header.ensures.1 in
+    let same : header ≡ block blocks head = c.in_ok-header.ensures.1 in
     let h = c.hash-hash.result in
     let l : h < 2 ^ 32 = omega arith in
-    let bucket = c.in_ok-bucket.bucket in
-    let b = c.in_ok-bucket.ensures in
-    let room = room_is kind blocks c.args.head rs st h l header same bucket.number bucket.block b in
-    let sorted = holds-sorted kind blocks c.args.head rs st h l header same bucket.number bucket.block b in
-    let place = c.place_for-place.ensures in
+    let bucket = c.in_ok-number.field-0 in
+    let b = c.in_ok-number.ensures in
+    let branch = c.in_ok-branch.branch in
+    let told = rw c.in_ok-branch.ensures.ok_part at c.branch_in.ensures in
+    let at : h / 2 ^ 25 ≡ branch.slot = sym told.0 in
+    let bits : branch.room ≡ room_at kind rs (h / 2 ^ 25) = omega (arith, told.1, room_is kind blocks head rs st h l header same bucket.number bucket.block b) in
+    let counted = c.count_in.ensures.told (length rs) (deepest (rooms kind rs)) (slots (block blocks head)) st.countable (subst (Encodes (length rs) (deepest (rooms kind rs)) (slots (block blocks head))) (sym same) st.header) in
+    let count = c.in_ok-count.ensures.ok_part in
     record {
       header = same;
-      count = let e = c.in-Some.ensures.told (length rs) (deepest (rooms kind rs)) (slots (block blocks c.args.head)) st.countable (subst (Encodes (length rs) (deepest (rooms kind rs)) (slots (block blocks c.args.head))) (sym same) st.header) in cc;
-      slot = ap (λ n. n / 2 ^ 25) c.hash-hash.ensures;
-      room = room;
-      number = number_is kind blocks c.args.head rs st h l header same bucket.number bucket.block b;
-      holds = holds-is kind blocks c.args.head rs st h l header same bucket.number bucket.block b (7 - get_or bucket.block 1 0) room;
-      within = place.within;
-      goes = place.place sorted c.requires;
-      here = c.is_at-found.ensures.found;
-      absent = λ f w. c.is_at-found.ensures.other f (sorted.whole c.place_for-place.result w);
+      count = cc;
+      slot = told.0 ∙ ap (λ n. n / 2 ^ 25) c.hash-hash.ensures;
+      room = bits ∙ ap (room_at kind rs) at;
+      number = number_is kind blocks head rs st h l header same bucket.number bucket.block b ∙ ap (λ n. get_or (slots (block blocks head)) n 0) at;
+      holds = holds-is kind blocks head rs st h l header same bucket.number bucket.block b branch.room bits ∙ ap (λ n. under (by_key kind) branch.room (n / 2 ^ branch.room) rs) at;
+      placed = c.place_in-place.ensures (holds-sorted kind blocks head rs st h l header same bucket.number bucket.block b) c.requires;
     }

@@ -6,8 +6,8 @@ use Rattle.plans.proofs.merging.buddy.Goals as goal
 
 pub returns : goal.returns
 returns c =
-    let s = c.args.slot in
-    let k = c.args.room in
+    let s = c.args.branch.slot in
+    let k = c.args.branch.room in
     let e : 2 ^ k ≡ 1 * 2 ^ k % 256 = omega (arith, pow_below k 8 (omega arith)) in
     record {
       inside = subst (λ n. bit_xor s n < 128) e (buddy_inside s k (omega arith) (omega arith));

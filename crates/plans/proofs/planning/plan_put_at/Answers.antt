@@ -1,64 +1,60 @@
-use Rattle.std.proofs.Common.{◌≡◌, ◌+◌, ◌/◌, ◌^◌, cond, leb, sym, refl, ap, ◌∙◌, subst}
+use Rattle.std.proofs.Common.{◌≡◌, ◌/◌, ◌^◌, leb, refl, ap, ◌∙◌}
 use Rattle.std.specs.List.{insert}
+use Rattle.std.proofs.lemmas.Result.{err_from_is_err_and}
 use Rattle.std.proofs.lemmas.Bool.{leb-true, leb-false}
 use Rattle.records.specs.Items.{records_in}
 use Rattle.records.specs.Records.{load, key_of}
 use Rattle.records.specs.Ordered.{put}
 use Rattle.buckets.specs.Blocks.{bucket_bytes}
+use Rattle.index.specs.declared.fault.Fault.TheVariants.{Full}
 use Rattle.index.specs.Stored.{block, prefix_at}
 use Rattle.plans.specs.Planned.{Planned}
-use Rattle.plans.specs.Editing.{cleared, Edited, PutPlanned}
+use Rattle.plans.specs.Editing.{PutPlanned}
 use Rattle.plans.proofs.Choosing.{some_told, none_told, never_err}
-use Rattle.plans.proofs.Edits.{put-load, edited-put, at_few, at_light, at_deep, prefix_here, prefix_there}
+use Rattle.plans.proofs.Edits.{put-load, edited-put, at_few, at_light}
 use Rattle.plans.proofs.Plans.{planned_split, not_held}
 use Rattle.plans.proofs.planning.plan_put_at.Goals as goal
 
-pub returns-in_default : goal.returns-in_default
-returns-in_default g c = λ head rs st ir lk w.
+pub returns-in_err-base : goal.returns-in_err-base
+returns-in_err-base g c = λ head rs st ir lk w.
     let met = g.met.K.KeyKind in
-    absurd (prefix_there g.K.KeyKind.kind met.ordered met.level met.bounded (g.D.Device.contents c.args.device.now) head rs st (key_of c.args.bytes.now) lk c.args.at.now w c.in_default.ensures)
+    absurd (c.in_err-base.ensures (at_light g.K.KeyKind.kind met.ordered met.level met.bounded (g.D.Device.contents c.args.device.now) head rs st (key_of c.args.bytes.now) lk c.args.at.now w))
 
-pub returns-in_default-clear : goal.returns-in_default-clear
-returns-in_default-clear g c = λ head rs st ir lk w.
-    let met = g.met.K.KeyKind in
-    absurd (c.in_default-clear.ensures (at_light g.K.KeyKind.kind met.ordered met.level met.bounded (g.D.Device.contents c.args.device.now) head rs st (key_of c.args.bytes.now) lk c.args.at.now w))
-
-pub returns-in-Some-build : goal.returns-in-Some-build
-returns-in-Some-build g c = λ head rs st ir lk w.
+pub returns-in-Some : goal.returns-in-Some
+returns-in-Some g c = λ head rs st ir lk w.
     let met = g.met.K.KeyKind in
     let kind = g.K.KeyKind.kind in
     let blocks = g.D.Device.contents c.args.device.now in
     let at = c.args.at.now in
     let r = c.args.bytes.now in
-    let base = records_in c.in-Some-clear.base in
-    let ys = insert base at.place r in
-    let same : ys ≡ insert (cleared at.found at.place (records_in at.block)) at.place r = ap (λ xs. insert xs at.place r) c.in-Some-clear.ensures in
+    let light = at_light kind met.ordered met.level met.bounded blocks head rs st (key_of r) lk at w in
     let few = at_few kind met.ordered met.level met.bounded blocks head rs st (key_of r) lk at w in
-    let counted = c.count_after-count.ensures few ∙ ap (λ n. n + cond at.found 0 1) w.count in
-    let edit = subst (λ zs. Edited kind blocks head rs (put kind r rs) at zs c.count_after-count.result) (sym same)
-    (edited-put kind met.ordered met.level met.bounded blocks head rs st (key_of r) lk at w r ir refl c.count_after-count.result counted) in
-    let told = some_told (leb (load ys) 504) c.in-Some-build.block (bucket_bytes c.in-Some.prefix ys) c.in-Some-build.ensures.bytes in
-    let prefix = prefix_here kind met.ordered met.level met.bounded blocks head rs st (key_of r) lk at w c.in-Some.prefix c.in-Some.ensures in
-    let bytes = told.1 ∙ ap (λ p. bucket_bytes p ys) prefix ∙ ap (bucket_bytes (prefix_at at.room (at.slot / 2 ^ at.room))) edit.there in
+    let base = records_in c.in_ok-base.base in
+    let ys = insert base c.in_ok-base.place r in
+    let edit = edited-put kind met.ordered met.level met.bounded blocks head rs st (key_of r) lk at w r ir refl base c.in_ok-base.place c.count_after-count.result (c.in_ok-base.ensures light) (c.count_after-count.ensures few) in
+    let told = some_told (leb (load ys) 504) c.in-Some.block (bucket_bytes c.prefix.result ys) c.in-Some.ensures.bytes in
+    let bytes = told.1 ∙ ap (λ p. bucket_bytes p ys) c.prefix.ensures ∙ ap (bucket_bytes (prefix_at at.branch.room (at.branch.slot / 2 ^ at.branch.room))) edit.there in
     never_err c.plan_light.result (Planned kind (block blocks head) rs (put kind r rs)) (PutPlanned kind (block blocks head) rs r) (λ plan p. p)
     (c.plan_light.ensures kind head rs (put kind r rs) ys edit met.bounded (leb-true _ _ told.0) bytes)
 
-pub returns-in_default-lay_out : goal.returns-in_default-lay_out
-returns-in_default-lay_out g c = λ head rs st ir lk w.
+pub returns-in_err-laid : goal.returns-in_err-laid
+returns-in_err-laid g c = λ head rs st ir lk w.
     let met = g.met.K.KeyKind in
     let kind = g.K.KeyKind.kind in
     let blocks = g.D.Device.contents c.args.device.now in
     let at = c.args.at.now in
     let r = c.args.bytes.now in
-    let base = records_in c.in-Some-clear.base in
-    let ys = insert base at.place r in
-    let same : ys ≡ insert (cleared at.found at.place (records_in at.block)) at.place r = ap (λ xs. insert xs at.place r) c.in-Some-clear.ensures in
+    let light = at_light kind met.ordered met.level met.bounded blocks head rs st (key_of r) lk at w in
     let few = at_few kind met.ordered met.level met.bounded blocks head rs st (key_of r) lk at w in
-    let counted = c.count_after-count.ensures few ∙ ap (λ n. n + cond at.found 0 1) w.count in
-    let edit = subst (λ zs. Edited kind blocks head rs (put kind r rs) at zs c.count_after-count.result) (sym same)
-    (edited-put kind met.ordered met.level met.bounded blocks head rs st (key_of r) lk at w r ir refl c.count_after-count.result counted) in
-    let none = c.in_default-lay_out.ensures (put kind r rs) edit.sorted edit.slot (at_deep kind met.ordered met.level met.bounded blocks head rs st (key_of r) lk at w) (put-load (records_in at.block) at.found at.place base r c.in-Some-clear.ensures (at_light kind met.ordered met.level met.bounded blocks head rs st (key_of r) lk at w) ir) edit.there in
-    (refl, not_held kind blocks head rs (put kind r rs) at ys c.count_after-count.result edit met.bounded none)
+    let base = records_in c.in_ok-base.base in
+    let ys = insert base c.in_ok-base.place r in
+    let edit = edited-put kind met.ordered met.level met.bounded blocks head rs st (key_of r) lk at w r ir refl base c.in_ok-base.place c.count_after-count.result (c.in_ok-base.ensures light) (c.count_after-count.ensures few) in
+    let some = put-load at.place (records_in at.block) base c.in_ok-base.place r (c.in_ok-base.ensures light) light ir in
+    let none = rw c.in_err-laid.ensures.ok_part at c.lay_out.ensures in
+    let value = rw c.in_err-laid.ensures.ok_part at c.in_err-laid.ensures.value in
+    let full : c.in_err-laid.field-0.0 ≡ Full = cc in
+    let p = err_from_is_err_and c.from_residual-in_err-laid.result c.from_residual-in_err-laid.ensures.1 in
+    rw (p.1, p.2) (full, not_held kind blocks head rs (put kind r rs) at ys c.count_after-count.result edit met.bounded (none (put kind r rs) edit.sorted at.branch.inside at.branch.deep some edit.there))
 
 pub returns : goal.returns
 returns g c = λ head rs st ir lk w.
@@ -67,13 +63,12 @@ returns g c = λ head rs st ir lk w.
     let blocks = g.D.Device.contents c.args.device.now in
     let at = c.args.at.now in
     let r = c.args.bytes.now in
-    let base = records_in c.in-Some-clear.base in
-    let ys = insert base at.place r in
-    let same : ys ≡ insert (cleared at.found at.place (records_in at.block)) at.place r = ap (λ xs. insert xs at.place r) c.in-Some-clear.ensures in
+    let light = at_light kind met.ordered met.level met.bounded blocks head rs st (key_of r) lk at w in
     let few = at_few kind met.ordered met.level met.bounded blocks head rs st (key_of r) lk at w in
-    let counted = c.count_after-count.ensures few ∙ ap (λ n. n + cond at.found 0 1) w.count in
-    let edit = subst (λ zs. Edited kind blocks head rs (put kind r rs) at zs c.count_after-count.result) (sym same)
-    (edited-put kind met.ordered met.level met.bounded blocks head rs st (key_of r) lk at w r ir refl c.count_after-count.result counted) in
-    let laid = c.in-Some-lay_out.ensures (put kind r rs) edit.sorted edit.slot (at_deep kind met.ordered met.level met.bounded blocks head rs st (key_of r) lk at w) (put-load (records_in at.block) at.found at.place base r c.in-Some-clear.ensures (at_light kind met.ordered met.level met.bounded blocks head rs st (key_of r) lk at w) ir) edit.there in
-    let heavy = leb-false _ _ (none_told (leb (load ys) 504) (bucket_bytes c.in-Some.prefix ys) c.in_default-build.ensures.bytes) in
-    planned_split kind blocks head rs (put kind r rs) at ys c.count_after-count.result edit met.bounded c.in-Some-lay_out.laid laid heavy _ refl refl refl refl refl c.new.ensures.none refl refl
+    let base = records_in c.in_ok-base.base in
+    let ys = insert base c.in_ok-base.place r in
+    let edit = edited-put kind met.ordered met.level met.bounded blocks head rs st (key_of r) lk at w r ir refl base c.in_ok-base.place c.count_after-count.result (c.in_ok-base.ensures light) (c.count_after-count.ensures few) in
+    let some = put-load at.place (records_in at.block) base c.in_ok-base.place r (c.in_ok-base.ensures light) light ir in
+    let laid = rw c.in_ok-laid.ensures.ok_part at c.lay_out.ensures in
+    let heavy = leb-false _ _ (none_told (leb (load ys) 504) (bucket_bytes c.prefix.result ys) c.in_default.ensures.bytes) in
+    planned_split kind blocks head rs (put kind r rs) at ys c.count_after-count.result edit met.bounded c.new.result c.in_ok-laid.laid c.new.ensures (laid (put kind r rs) edit.sorted at.branch.inside at.branch.deep some edit.there) heavy

@@ -1,0 +1,12 @@
+use Rattle.std.proofs.Common.{◌≡◌, ◌+◌, ◌/◌, ◌^◌, ap, ◌∙◌, arith}
+use Rattle.std.proofs.lemmas.Bool.Decides.{nat_tests}
+use Rattle.records.specs.Records.{key_of}
+use Rattle.shape.specs.Shapes.{prefix_of}
+use Rattle.layout.proofs.part.Part.has.Goals as goal
+
+pub returns-in-Some : goal.returns-in-Some
+unfolding prefix_of
+returns-in-Some g c = λ t.
+    let k = 25 + c.args.self.room in
+    let e : c.from.result / 2 ^ k ≡ g.K.KeyKind.kind.hash (key_of c.args.bytes.now) / 2 ^ k = ap (λ h. h / 2 ^ k) (c.from.ensures ∙ c.hash.ensures ∙ ap g.K.KeyKind.kind.hash c.in-Some.ensures.1) in
+    (λ z. grind (arith, nat_tests), λ z. grind (arith, nat_tests))
