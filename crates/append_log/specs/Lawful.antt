@@ -3,7 +3,7 @@ use Rattle.std.specs.Prelude.{◌≡◌, ℕ, zero, suc, ◌<◌, ◌≤◌, tru
 use Rattle.std.proofs.Common.{ap, ◌∙◌, ⊎_elim, arith, length-take, length-drop}
 use Rattle.std.proofs.lemmas.List.{length-replicate}
 use Rattle.std.proofs.lemmas.Bool.{cond_both, cases_Bool}
-use Rattle.device.specs.Laws.{Laws}
+use Rattle.device.specs.Laws.{Laws, BytesLaws}
 use Rattle.append_log.specs.declared.head.Head.{Head}
 use Rattle.append_log.specs.Records.{used, start, number, body, valid, head_of, latest, count_of, room_of, log_blocks, log_room, OnlyAppends}
 use Rattle.append_log.specs.Replayed.{valid_parts, head_of-valid, head_of_not, length-log_blocks, get_or-log_blocks, valid-from-block}
@@ -37,24 +37,16 @@ appends_trans xs ys zs p q = record {
   beyond = λ i h. let b = q.grows in p.beyond i (omega arith) ∙ q.beyond i h;
 }
 
--- of any struct that holds the bytes
-pub owned_laws : {S : Type 0} (bytes : S → List ℕ) → Laws (λ s. log_blocks (bytes s)) (λ s. log_room (bytes s)) (λ s t. OnlyAppends (bytes s) (bytes t))
-owned_laws bytes = record {
-  sized = λ s. sized_blocks (bytes s);
-  countable = λ s. omega (arith, countable_blocks (bytes s));
-  bounded = λ s. bounded_room (length (bytes s)) (head_of (bytes s));
-  still = λ s. appends_refl (bytes s);
-  onward = λ s t u. appends_trans (bytes s) (bytes t) (bytes u);
-}
+-- of any struct that holds bytes, its own or lent
+module _ {S B : Type 0} {kept : B → B → Type 0} (held : S → B) (bytes : B → List ℕ) (laws : BytesLaws kept) where
+  abbrev of : S → List ℕ
+  of s = bytes (held s)
 
--- of any struct that holds a reference to the bytes, by the reference's name
-pub lent_laws : {S N : Type 0} (bytes : S → List ℕ) (lender : S → N) → Laws (λ s. log_blocks (bytes s)) (λ s. log_room (bytes s)) (λ s t. (lender s ≡ lender t) × OnlyAppends (bytes s) (bytes t))
-lent_laws bytes lender =
-    let o = owned_laws bytes in
-    record {
-      sized = o.sized;
-      countable = o.countable;
-      bounded = o.bounded;
-      still = λ s. (refl, o.still s);
-      onward = λ s t u p q. (p.0 ∙ q.0, o.onward s t u p.1 q.1);
-    }
+  pub log_laws : Laws (λ s. log_blocks (of s)) (λ s. log_room (of s)) (λ s t. kept (held s) (held t) × OnlyAppends (of s) (of t))
+  log_laws = record {
+    sized = λ s. sized_blocks (of s);
+    countable = λ s. omega (arith, countable_blocks (of s));
+    bounded = λ s. bounded_room (length (of s)) (head_of (of s));
+    still = λ s. (laws.still (held s), appends_refl (of s));
+    onward = λ s t u p q. (laws.onward _ _ _ p.0 q.0, appends_trans (of s) (of t) (of u) p.1 q.1);
+  }

@@ -1,5 +1,5 @@
 -- A log: a head of six bytes, then records of 514 bytes, a block number and the block's new contents.
-use Rattle.std.specs.Prelude.{◌≡◌, ℕ, zero, suc, ◌+◌, ◌-◌, ◌*◌, ◌/◌, ◌%◌, ◌<◌, ◌≤◌, min, Bool, true, cond, ◌&&◌, List, map, length, take, drop, replicate, is_ok, Some, None, Option, Result, MatchResult, ◌==◌, nat_le, nat_lt, slice_index, slice_set}
+use Rattle.std.specs.Prelude.{◌≡◌, ℕ, zero, suc, ◌+◌, ◌-◌, ◌*◌, ◌/◌, ◌%◌, ◌<◌, ◌≤◌, min, Bool, true, cond, ◌&&◌, List, map, length, take, drop, replicate, Some, None, Option, Result, MatchResult, ◌==◌, nat_le, nat_lt, slice_index, slice_set}
 use Rattle.std.specs.List.{range_with_len}
 use Rattle.device.specs.Access.{writable}
 use Rattle.device.specs.declared.refused.Refused.{Refused}
@@ -83,11 +83,3 @@ pub record Appended (bytes after : List ℕ) (n b : ℕ) (source : List ℕ) : T
 -- a write that is served appends one record, for block b with these bytes, and one that is refused leaves all bytes
 abbrev pub AppendsOne : {X : Type 0} → List ℕ → ℕ → List ℕ → List ℕ → Result X Refused → Type 0
 AppendsOne bytes b source after r = MatchResult r (λ _. Appended bytes after (used bytes) b source) (λ _. after ≡ bytes)
-
--- what appending a record for block b comes to: a head after it, or no and the same bytes
-pub record AppendEnds (bytes : List ℕ) (b : ℕ) (source after : List ℕ) (r : Result Head Refused) : Type 0 where
-  pub served : is_ok r ≡ writable (log_blocks bytes) b source (log_room bytes)
-  pub checked : MatchResult r (λ head. Some head ≡ head_of after) (λ _. after ≡ bytes)
-  pub sets : log_blocks after ≡ cond (is_ok r) (slice_set (log_blocks bytes) b source) (log_blocks bytes)
-  pub keeps : OnlyAppends bytes after
-  pub costs : log_room after + cond (is_ok r) 1 0 ≡ log_room bytes

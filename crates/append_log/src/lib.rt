@@ -1,11 +1,9 @@
-// A device that only appends: each write is one more record in the caller's bytes.
+// A device that only appends: each write is one more record in its bytes.
 #![tactic(auto)]
 
 mod head;
-mod lent;
-mod owned;
+mod log;
 mod records;
 
 pub use head::Head;
-pub use lent::Log;
-pub use owned::LogBuf;
+pub use log::{Log, LogBuf};

@@ -1,35 +1,40 @@
 -- An image after a write to one block.
-use Rattle.std.proofs.Common.{◌≡◌, ℕ, ◌+◌, ◌-◌, ◌*◌, ◌/◌, ◌<◌, ◌≤◌, min, ◌≢◌, List, [], length, get_or, take, drop, set, sym, ap, ◌∙◌, ⊎_elim, arith, length-set, rules}
+use Rattle.std.proofs.Common.{◌≡◌, ℕ, ◌+◌, ◌-◌, ◌*◌, ◌/◌, ◌<◌, min, ◌≢◌, List, [], length, get_or, take, drop, set, sym, ap, ◌∙◌, ⊎_elim, arith, length-append, length-drop, length-set, length-take}
+use Rattle.std.specs.List.{replace_range}
 use borrow.Rule.Slice.PartMut.{put_mid}
-use Rattle.std.proofs.lemmas.List.{ext_get_or, drop-take, get_or-set_same, get_or-set_other, places}
+use Rattle.std.proofs.lemmas.List.{ext_get_or, drop-take, get_or-set_same, get_or-set_other}
 use Rattle.std.proofs.lemmas.Slice.{take-put_mid_below, drop-put_mid, between-put_mid}
 use Rattle.std.proofs.lemmas.Bool.{cases_order}
+use Rattle.device.proofs.Overwritten.{replace_range-put_mid}
 use Rattle.image.specs.Blocks.{block_at, whole_blocks, image_blocks, SameBeyond}
 use Rattle.image.specs.Lawful.{block_ends, length-image_blocks, get_or-image_blocks}
 
--- ys written over block b of xs; k is the part's length
-module _ (xs ys : List ℕ) (b k : ℕ) (h : b < whole_blocks xs) (e : length ys ≡ 512) (ek : k ≡ 512) where
+-- ys written over block b of xs
+module _ (xs ys : List ℕ) (b : ℕ) (h : b < whole_blocks xs) (e : length ys ≡ 512) where
   abbrev after : List ℕ
-  after = put_mid (512 * b) k xs ys
+  after = put_mid (512 * b) 512 xs ys
+
+  pub overwritten : (zs : List ℕ) (start n : ℕ) → zs ≡ replace_range xs start (start + n) ys → start ≡ 512 * b → n ≡ 512 → zs ≡ after
+  overwritten zs start n p at len = p ∙ ap (λ i. replace_range xs i (i + n) ys) at ∙ ap (λ m. replace_range xs (512 * b) (512 * b + m) ys) len ∙ replace_range-put_mid xs ys (512 * b) 512
 
   same_length : length after ≡ length xs
-  same_length = let i = block_ends xs b h in let n : 512 * b + k ≤ length xs = omega arith in let m : length ys ≡ k = omega arith in search (rules, places)
+  same_length = let i = block_ends xs b h in omega (arith, length-append {A = ℕ}, length-take {A = ℕ}, length-drop {A = ℕ})
 
   block_written : block_at after b ≡ ys
   block_written =
       let i = block_ends xs b h in
       let n : 512 ≡ (512 * b + 512) - 512 * b = omega arith in
-      ap (λ m. take m (drop (512 * b) after)) n ∙ between-put_mid (512 * b) k xs ys (512 * b + 512) (omega arith) (omega arith)
+      ap (λ m. take m (drop (512 * b) after)) n ∙ between-put_mid (512 * b) 512 xs ys (512 * b + 512) (omega arith) (omega arith)
 
   block_below : (j : ℕ) → j < b → block_at after j ≡ block_at xs j
   block_below j l =
       let i = block_ends xs b h in
       sym (drop-take (512 * j) 512 after)
-      ∙ ap (drop (512 * j)) (take-put_mid_below (512 * b) k xs ys (512 * j + 512) (omega arith) (omega arith))
+      ∙ ap (drop (512 * j)) (take-put_mid_below (512 * b) 512 xs ys (512 * j + 512) (omega arith) (omega arith))
       ∙ drop-take (512 * j) 512 xs
 
   block_above : (j : ℕ) → b < j → block_at after j ≡ block_at xs j
-  block_above j l = let i = block_ends xs b h in ap (take 512) (drop-put_mid (512 * b) k xs ys (512 * j) (omega arith) (omega arith) (omega arith))
+  block_above j l = let i = block_ends xs b h in ap (take 512) (drop-put_mid (512 * b) 512 xs ys (512 * j) (omega arith) (omega arith) (omega arith))
 
   same_count : whole_blocks after ≡ whole_blocks xs
   same_count = ap (λ n. min (n / 512) 65535) same_length
@@ -56,4 +61,4 @@ module _ (xs ys : List ℕ) (b k : ℕ) (h : b < whole_blocks xs) (e : length ys
   pub beyond_after : SameBeyond xs after
   beyond_after =
       let i = block_ends xs b h in
-      record { len = sym same_length; rest = sym (drop-put_mid (512 * b) k xs ys (512 * whole_blocks xs) (omega arith) (omega arith) (omega arith)) }
+      record { len = sym same_length; rest = sym (drop-put_mid (512 * b) 512 xs ys (512 * whole_blocks xs) (omega arith) (omega arith) (omega arith)) }

@@ -10,7 +10,7 @@ returns-then-is_for c =
     let b = c.args.block in
     let k = c.loop-k.k in
     let up : k ≡ k - 1 + 1 = omega arith in
-    let is = eqb-true (number xs (k - 1)) b (sym c.if-is_for.ensures) in
+    let is = eqb-true (number xs (k - 1)) b (sym (c.if-is_for.ensures (omega arith))) in
     (omega arith, c.loop-k.invariant ∙ ap (λ j. latest xs j b) up ∙ latest_same xs (k - 1) b is)
 
 pub loop-k-preserved : goal.loop-k-preserved
@@ -19,5 +19,5 @@ loop-k-preserved c =
     let b = c.args.block in
     let k = c.loop-k.k in
     let up : k ≡ k - 1 + 1 = omega arith in
-    let not = eqb-false (number xs (k - 1)) b (sym c.if-is_for.ensures) in
+    let not = eqb-false (number xs (k - 1)) b (sym (c.if-is_for.ensures (omega arith))) in
     c.loop-k.invariant ∙ ap (λ j. latest xs j b) up ∙ latest_other xs (k - 1) b not
