@@ -1,12 +1,17 @@
 -- One record more in a block that is being built.
 use Rattle.std.proofs.Common.{◌≡◌, ℕ, zero, suc, ◌+◌, ◌-◌, ◌*◌, ◌<◌, ◌≤◌, List, [], ◌∷◌, ◌++◌, length, get_or, take, drop, replicate, sym, refl, ap, ◌∙◌, append_assoc, arith, length-append}
+use borrow.Rule.Slice.PartMut.{put_mid}
 use lib.ListN.{length-replicate}
-use Rattle.std.proofs.lemmas.List.{append-nil, take_at, drop_at, take_more, take_all, length-take-le, replicate-append-replicate}
+use Rattle.std.proofs.lemmas.List.{append-nil, take_at, drop_at, drop-drop, take_more, take_all, length-take-le, replicate-append-replicate}
 use Rattle.records.specs.Records.{load}
 use Rattle.buckets.specs.declared.prefix.Prefix.{Prefix}
 use Rattle.buckets.specs.Blocks.{size, bodies, pairs, heading, bucket_bytes}
 use Rattle.buckets.specs.Builds.{over, pair, start_of, partly}
-use Rattle.buckets.proofs.Held.{load_is, length_pairs, length-bodies, size-take, drop_past}
+use Rattle.buckets.proofs.Held.{load_is, length_pairs, length_bodies, size_take, drop_past}
+
+-- what a part of a block that was written to leaves
+pub put_is : (at k : ℕ) (block bytes : List ℕ) → k ≡ length bytes → put_mid at k block bytes ≡ over at bytes block
+put_is at k block bytes e = let d = drop-drop (length bytes) at block in cc
 
 over_at : (p old new t : List ℕ) (at : ℕ) → length p ≡ at → length old ≡ length new → over at new (p ++ (old ++ t)) ≡ p ++ (new ++ t)
 over_at p old new t at e f =
@@ -69,8 +74,8 @@ module _ (head : List ℕ) (eight : length head ≡ 8) (rs : List (List ℕ)) (l
       let t = zeros (504 - (4 * n + size front + length item)) in
       let w = load_is rs in
       let il : length i ≡ 4 * k = length_pairs from front ∙ ap (λ m. 4 * m) (length-take-le k rs (omega arith)) in
-      let dl = length-bodies front in
-      let sl = size-take rs k l in
+      let dl = length_bodies front in
+      let sl = size_take rs k l in
       let z4 : zeros 4 ++ z ≡ zeros (4 * (n - k)) = replicate-append-replicate 4 (4 * (n - (k + 1))) 0 ∙ ap zeros (omega arith) in
       let zl : zeros (length item) ++ t ≡ zeros (504 - (4 * n + size front)) = replicate-append-replicate (length item) (504 - (4 * n + size front + length item)) 0 ∙ ap zeros (omega arith) in
       let was : partly head rs k ≡ shape i (zeros 4 ++ z) d (zeros (length item) ++ t) = ap (λ x. shape i x d (zeros (504 - (4 * n + size front)))) (sym z4) ∙ ap (λ x. shape i (zeros 4 ++ z) d x) (sym zl) in
@@ -84,6 +89,14 @@ module _ (head : List ℕ) (eight : length head ≡ 8) (rs : List (List ℕ)) (l
       let tx : zeros (504 - (4 * n + size (take (k + 1) rs))) ≡ t = ap zeros (omega arith) in
       let is : partly head rs (k + 1) ≡ shape (i ++ q) z (d ++ item) t = cc in
       ap (λ x. over (start_of rs k) item (over (8 + 4 * k) q x)) was ∙ step ∙ sym is
+
+  -- the same, as two writes to parts of a block
+  pub partly_put : (k at a b len : ℕ) (block bytes item : List ℕ) → k < length rs → block ≡ partly head rs k → at ≡ start_of rs k → item ≡ get_or rs k [] → len ≡ length item → bytes ≡ pair at len → a ≡ 4 → b ≡ len → put_mid at b (put_mid (8 + 4 * k) a block bytes) item ≡ partly head rs (k + 1)
+  partly_put k at a b len block bytes item l is e f m g four long =
+      let one = put_is (8 + 4 * k) a block bytes (omega (arith, ap length g)) in
+      let two = put_is at b (put_mid (8 + 4 * k) a block bytes) item (omega arith) in
+      let more = partly_more k l in
+      cc
 
   pub partly_none : head ++ zeros 504 ≡ partly head rs 0
   unfolding partly
@@ -101,7 +114,7 @@ module _ (head : List ℕ) (eight : length head ≡ 8) (rs : List (List ℕ)) (l
       let e = size_front rs k in
       let w = load_is rs in
       let il = length_pairs (8 + 4 * length rs) (take k rs) ∙ ap (λ m. 4 * m) (length-take-le k rs l) in
-      simp (length-append, length-replicate) (omega (arith, length-bodies (take k rs)))
+      simp (length-append, length-replicate) (omega (arith, length_bodies (take k rs)))
 
   pub start_more : (k : ℕ) → k < length rs → start_of rs k + length (get_or rs k []) ≡ start_of rs (k + 1)
   start_more k l = let e = size_more rs k l in omega arith

@@ -1,11 +1,12 @@
 -- A block that passes the checks is the bucket of its own records, and only such a block does.
-use Rattle.std.proofs.Common.{◌≡◌, ℕ, zero, suc, ◌+◌, ◌-◌, ◌<◌, ◌≤◌, List, length, Less, sym, ap, ◌∙◌, subst, arith}
+use Rattle.std.proofs.Common.{◌≡◌, ℕ, zero, suc, ◌+◌, ◌-◌, ◌<◌, ◌≤◌, true, List, length, Less, sym, ap, ◌∙◌, subst, arith}
 use Rattle.kinds.specs.Kinds.{Kind, TotalOrder, position}
 use Rattle.kinds.proofs.Positions.{less_onward, position-total}
 use Rattle.records.specs.Items.{records_in}
 use Rattle.records.specs.Records.{load}
 use Rattle.records.specs.Searches.{key_at, Sorted}
 use Rattle.buckets.specs.declared.prefix.Prefix.{Prefix}
+use Rattle.buckets.specs.Prefixes.{is_prefix}
 use Rattle.buckets.specs.Blocks.{bucket_bytes}
 use Rattle.buckets.specs.Buckets.{BucketOf, IsBucket, FitsAt}
 use Rattle.buckets.proofs.Held.{records_back}
@@ -49,3 +50,10 @@ module _ (kind : Kind) (prefix : Prefix) (block : List ℕ) (b : IsBucket kind p
     under = own.under n l;
     after = λ h. own.sorted.rising (n - 1) n (omega arith) l;
   }
+
+module _ (kind : Kind) (o : TotalOrder kind.lawful kind.order) (prefix : Prefix) (block : List ℕ) where
+  pub bucket_from : is_prefix prefix ≡ true → (load (records_in block) ≤ 504) × (block ≡ bucket_bytes prefix (records_in block)) → ((n : ℕ) → n < length (records_in block) → FitsAt kind prefix (records_in block) n) → IsBucket kind prefix block
+  bucket_from proper whole fit = (
+    records_in block,
+    record { proper = proper; sorted = sorted_from_fit kind o prefix (records_in block) fit; under = λ n l. (fit n l).under; light = whole.0; bytes = whole.1 },
+  )

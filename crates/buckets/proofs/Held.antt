@@ -18,14 +18,14 @@ pub length_pairs : (from : ℕ) (rs : List (List ℕ)) → length (pairs from rs
 length_pairs from [] = refl
 length_pairs from (r ∷ rs) = let h = length_pairs (from + length r) rs in omega arith
 
-pub length-bodies : (rs : List (List ℕ)) → length (bodies rs) ≡ size rs
-length-bodies [] = refl
-length-bodies (r ∷ rs) = let h = length-bodies rs in simp length-append (omega arith)
+pub length_bodies : (rs : List (List ℕ)) → length (bodies rs) ≡ size rs
+length_bodies [] = refl
+length_bodies (r ∷ rs) = let h = length_bodies rs in simp length-append (omega arith)
 
-pub size-take : (rs : List (List ℕ)) (i : ℕ) → i < length rs → size (take i rs) + length (get_or rs i []) ≤ size rs
-size-take [] i l = elim l [ ]
-size-take (r ∷ rs) zero l = omega arith
-size-take (r ∷ rs) (suc i) l = let h = size-take rs i (omega arith) in omega arith
+pub size_take : (rs : List (List ℕ)) (i : ℕ) → i < length rs → size (take i rs) + length (get_or rs i []) ≤ size rs
+size_take [] i l = elim l [ ]
+size_take (r ∷ rs) zero l = omega arith
+size_take (r ∷ rs) (suc i) l = let h = size_take rs i (omega arith) in omega arith
 
 pub pairs_offset : (from : ℕ) (rs : List (List ℕ)) (i : ℕ) (t : List ℕ) → i < length rs → from + size rs < 65536 → be16 (pairs from rs ++ t) (4 * i) ≡ from + size (take i rs)
 pairs_offset from [] i t l s = elim l [ ]
@@ -63,7 +63,7 @@ drop_past h x m n e = rw (← e, ← drop-drop n (length h) (h ++ x), drop_at h 
 module _ (prefix : Prefix) (rs : List (List ℕ)) (light : load rs ≤ 504) where
   pub length-bucket : length (bucket_bytes prefix rs) ≡ 512
   unfolding bucket_bytes
-  length-bucket = simp (length-append, length-replicate) (omega (arith, load_is rs, length_pairs (8 + 4 * length rs) rs, length-bodies rs))
+  length-bucket = simp (length-append, length-replicate) (omega (arith, load_is rs, length_pairs (8 + 4 * length rs) rs, length_bodies rs))
 
   count_at : be16 (bucket_bytes prefix rs) 2 ≡ length rs
   unfolding bucket_bytes
@@ -94,7 +94,7 @@ module _ (prefix : Prefix) (rs : List (List ℕ)) (light : load rs ≤ 504) wher
       let n = length-bucket in
       let o = offset_at_lem i l in
       let m = length_at_lem i l in
-      let s = size-take rs i l in
+      let s = size_take rs i l in
       let w = load_is rs in
       item_is 2 8 block i (omega (arith, count_at)) (omega arith) (omega arith) ∙ ap (λ k. Some (take k (drop (offset_at block 8 i) block))) m ∙ ap (λ k. Some (take (length (get_or rs i [])) (drop k block))) o ∙ ap Some (record_at i l)
 

@@ -1,4 +1,4 @@
 pub mod Held
-mod Built
+pub mod Built
 mod Edited
 pub mod Checked

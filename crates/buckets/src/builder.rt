@@ -1,72 +1,65 @@
-ghost use Rattle.std.specs.Prelude.{◌≡◌, ◌+◌, ◌<◌, ◌≤◌, length, replicate, IfSome, if◌then◌else◌, Some, None, nat_le};
+ghost use Rattle.std.specs.Prelude.{◌≡◌, ◌+◌, ◌<◌, ◌≤◌, length, replicate, IfSome, MatchOption, if◌then◌else◌, Some, None, nat_le};
 ghost use Rattle.records.specs.Items.{records_in};
 ghost use Rattle.records.specs.Records.{load};
 ghost use Rattle.buckets.specs.Blocks.{heading, bucket_bytes};
-ghost use Rattle.buckets.specs.Builds.{over, pair, partly};
+ghost use Rattle.buckets.specs.Builds.{pair, partly};
 
 use crate::prefix::Prefix;
 use crate::source::Source;
+use records::PAIR;
+
+// The bytes of a bucket block's heading.
+const HEAD: usize = 8;
 
 // What records and their pairs may take in a block of 512 bytes.
 const MAX_LOAD: usize = 504;
 
-// Whether the records of a source fit into one bucket.
-fn is_light<S: Source>(source: &S) -> bool
-    ensures { result ≡ nat_le (load (S.Source.records source.now)) 504 }
+// What the records of a source leave of that, if they fit.
+#[tactic(auto, using(crate::proofs::Held::load_is, crate::proofs::Held::size_take, crate::proofs::Built::size_more, std::proofs::lemmas::List::take_all))]
+fn room_left<S: Source>(source: &S) -> Option<usize>
+    ensures { MatchOption result (504 < load (S.Source.records source.now)) (λ left. left + load (S.Source.records source.now) ≡ 504) }
 {
     let count = source.count();
-    if count > MAX_LOAD / 4 {
-        return false;
-    }
-    let mut total = 4 * count;
+    let mut left = MAX_LOAD.checked_sub(PAIR.checked_mul(count)?)?;
     for n in 0..count {
-        let len = source.record(n).len();
-        if len > MAX_LOAD - total {
-            return false;
-        }
-        total += len;
+        left = left.checked_sub(source.record(n).len())?;
     }
-    true
+    Some(left)
 }
 
-fn write(block: &mut [u8], at: usize, bytes: &[u8])
-    requires { at + length bytes.now ≤ length block.old }
-    ensures { block.new ≡ over at bytes.now block.old }
+// The pair that leads to a record.
+pub fn pair_bytes(offset: u16, len: u16) -> [u8; 4]
+    ensures { result ≡ pair offset len }
 {
-    block[at..at + bytes.len()].copy_from_slice(bytes);
+    let [a, b] = offset.to_be_bytes();
+    let [c, d] = len.to_be_bytes();
+    [a, b, c, d]
 }
 
-fn write_pair(block: &mut [u8], at: usize, offset: usize, len: usize)
-    requires { (at + 4 ≤ length block.old) × ((offset < 65536) × (len < 65536)) }
-    ensures { block.new ≡ over at (pair offset len) block.old }
+fn heading_bytes(prefix: Prefix, count: u16) -> [u8; 8]
+    ensures { result ≡ heading prefix count }
 {
-    let [a, b] = (offset as u16).to_be_bytes();
-    let [c, d] = (len as u16).to_be_bytes();
-    write(block, at, &[a, b, c, d]);
-}
-
-fn write_heading(block: &mut [u8], prefix: Prefix, count: usize)
-    requires { (8 ≤ length block.old) × (count < 65536) }
-    ensures { block.new ≡ over 0 (heading prefix count) block.old }
-{
-    let [a, b] = (count as u16).to_be_bytes();
+    let [a, b] = count.to_be_bytes();
     let [c, d, e, f] = prefix.top.to_be_bytes();
-    write(block, 0, &[3, prefix.bits, a, b, c, d, e, f]);
+    [3, prefix.bits, a, b, c, d, e, f]
 }
 
 // The records of a source with their pairs, in a block whose heading is still zero.
+#[tactic(auto, using(crate::proofs::Held::load_is, crate::proofs::Held::size_take))]
 fn lay_records<S: Source>(source: &S) -> [u8; 512]
     requires { load (S.Source.records source.now) ≤ 504 }
     ensures { result ≡ partly (replicate 8 0) (S.Source.records source.now) (length (S.Source.records source.now)) }
 {
     let mut block = [0; 512];
     let count = source.count();
-    let mut at = 8 + 4 * count;
+    let mut at = HEAD + PAIR * count;
     for n in 0..count {
         let record = source.record(n);
-        write_pair(&mut block, 8 + 4 * n, at, record.len());
-        write(&mut block, at, record);
-        at += record.len();
+        let len = record.len();
+        let pair = HEAD + PAIR * n;
+        block[pair..pair + PAIR].copy_from_slice(&pair_bytes(at as u16, len as u16));
+        block[at..at + len].copy_from_slice(record);
+        at += len;
     }
     block
 }
@@ -76,10 +69,8 @@ pub fn build<S: Source>(prefix: Prefix, source: &S) -> Option<[u8; 512]>
     ensures bytes { result ≡ (if nat_le (load (S.Source.records source.now)) 504 then Some (bucket_bytes prefix (S.Source.records source.now)) else None) }
     ensures back { IfSome result (λ block. records_in block ≡ S.Source.records source.now) }
 {
-    if !is_light(source) {
-        return None;
-    }
+    room_left(source)?;
     let mut block = lay_records(source);
-    write_heading(&mut block, prefix, source.count());
+    block[..HEAD].copy_from_slice(&heading_bytes(prefix, source.count() as u16));
     Some(block)
 }

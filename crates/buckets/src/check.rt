@@ -7,18 +7,14 @@ ghost use Rattle.buckets.specs.Buckets.{FitsAt, IsBucket};
 use crate::builder::build;
 use crate::prefix::Prefix;
 use crate::sources::Whole;
-use kinds::{KeyKind, compare_positions};
+use kinds::{Hashed, KeyKind};
 use records::{bucket_count, bucket_key};
-use std::cmp::Ordering;
 
 // Whether a block, built again from the records that it tells, is the same.
 fn is_rebuilt(prefix: Prefix, block: &[u8]) -> bool
     ensures { Decides result ((load (records_in block.now) ≤ 504) × (block.now ≡ bucket_bytes prefix (records_in block.now))) }
 {
-    match build(prefix, &Whole { block }) {
-        Some(again) => again[..] == block[..],
-        None => false,
-    }
+    matches!(build(prefix, &Whole { block }), Some(again) if again[..] == block[..])
 }
 
 // Whether record n is a record of the kind under the prefix, and after the one before it.
@@ -29,16 +25,11 @@ fn fits_at<K: KeyKind>(prefix: Prefix, block: &[u8], n: usize) -> bool
     let Some(key) = bucket_key(block, n) else {
         return false;
     };
-    if !K::is_lawful(key) || !prefix.begins(K::hash(key)) {
+    let hashed = Hashed::<K>::new(key);
+    if !K::is_lawful(key) || !prefix.begins(hashed.hash) {
         return false;
     }
-    if n == 0 {
-        return true;
-    }
-    match bucket_key(block, n - 1) {
-        Some(before) => compare_positions::<K>(before, key) == Ordering::Less,
-        None => false,
-    }
+    n == 0 || matches!(bucket_key(block, n - 1), Some(before) if hashed.order_of(before).is_lt())
 }
 
 // Whether every record fits at its place.
@@ -57,11 +48,5 @@ fn all_fit<K: KeyKind>(prefix: Prefix, block: &[u8]) -> bool
 pub fn is_bucket<K: KeyKind>(prefix: Prefix, block: &[u8]) -> bool
     ensures { Decides result (IsBucket K.KeyKind.kind prefix block.now) }
 {
-    if !prefix.is_proper() {
-        return false;
-    }
-    if !is_rebuilt(prefix, block) {
-        return false;
-    }
-    all_fit::<K>(prefix, block)
+    prefix.is_proper() && is_rebuilt(prefix, block) && all_fit::<K>(prefix, block)
 }

@@ -8,7 +8,7 @@ mod prefix;
 mod source;
 mod sources;
 
-pub use builder::build;
+pub use builder::{build, pair_bytes};
 pub use check::is_bucket;
 pub use joined::Joined;
 pub use prefix::Prefix;

@@ -6,16 +6,11 @@ use crate::source::Source;
 use records::{bucket_count, bucket_record};
 
 // Record n of a block, and no bytes where there is none.
+#[tactic(auto, using(records::proofs::Itemized::record_is))]
 pub(crate) fn record_in(block: &[u8], n: usize) -> &[u8]
     ensures { result.now ≡ slice_index_or (records_in block.now) n [] }
 {
-    if n >= bucket_count(block) {
-        return &[];
-    }
-    match bucket_record(block, n) {
-        Some(record) => record,
-        None => &[],
-    }
+    bucket_record(block, n).unwrap_or(&[])
 }
 
 // All records of a bucket block.
@@ -49,10 +44,12 @@ pub struct Inserted<'a, 'b> {
 impl Source for Inserted<'_, '_> {
     ghost records = { λ s. insert (records_in s.block.now) s.place s.record.now };
 
+    #[tactic(auto, using(crate::proofs::Edited::length_put_in))]
     fn count(&self) -> usize {
         bucket_count(self.block) + 1
     }
 
+    #[tactic(auto, using(crate::proofs::Edited::put_in_below, crate::proofs::Edited::put_in_here, crate::proofs::Edited::put_in_above))]
     fn record(&self, n: usize) -> &[u8] {
         let place = self.place.min(bucket_count(self.block));
         if n < place {
@@ -75,11 +72,13 @@ pub struct Removed<'a> {
 impl Source for Removed<'_> {
     ghost records = { λ s. remove (records_in s.block.now) s.place };
 
+    #[tactic(auto, using(crate::proofs::Edited::length_taken_out))]
     fn count(&self) -> usize {
         let count = bucket_count(self.block);
         if self.place < count { count - 1 } else { count }
     }
 
+    #[tactic(auto, using(crate::proofs::Edited::taken_out_below, crate::proofs::Edited::taken_out_above))]
     fn record(&self, n: usize) -> &[u8] {
         if n < self.place {
             record_in(self.block, n)

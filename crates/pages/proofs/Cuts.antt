@@ -2,7 +2,9 @@
 use Rattle.std.proofs.Common.{◌≡◌, ℕ, ◌+◌, ◌*◌, ◌≤◌, List, [], ◌∷◌, ◌++◌, length, take, drop, sum, sym, refl, ap, ◌∙◌, append_assoc, arith, length-append, length-drop}
 use Rattle.std.proofs.lemmas.List.{take_at, drop_at, drop-drop, length-take-le, take-append-le, drop-append-le, take-append-drop, take_all, nil_from_length}
 use Rattle.std.proofs.lemmas.List.Sums.{sum_by-cons}
+use Rattle.records.specs.Records.{load}
 use Rattle.buckets.specs.Blocks.{size, bodies, pairs}
+use Rattle.buckets.proofs.Held.{load_is}
 use Rattle.buckets.specs.Builds.{over, pair}
 use Rattle.pages.specs.Gathered.{cut, pairs_by}
 
@@ -30,6 +32,9 @@ size-cut (n ∷ ns) bs e =
     let t = length-take-le n bs p.0 in
     let d = length-drop n bs in
     omega arith
+
+pub load_cut : (ns bs : List ℕ) → sum ns ≡ length bs → load (cut ns bs) ≡ 4 * length ns + length bs
+load_cut ns bs e = omega (arith, load_is (cut ns bs), length_cut ns bs, size-cut ns bs e)
 
 -- the pairs go by the lengths alone
 pub pairs-cut : (from : ℕ) (ns bs : List ℕ) → sum ns ≡ length bs → pairs from (cut ns bs) ≡ pairs_by from ns

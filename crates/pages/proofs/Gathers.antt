@@ -1,47 +1,39 @@
 -- What a page builder holds, before and after one more record, and the page that it makes.
-use Rattle.std.proofs.Common.{◌≡◌, ℕ, ◌+◌, ◌*◌, ◌≤◌, Bool, List, [], ◌∷◌, ◌++◌, length, take, drop, set, sum, sym, refl, ap, ◌∙◌, append_assoc, arith, length-append}
-use Rattle.std.proofs.lemmas.List.{take_at, length-take-le, take_more_set}
+use Rattle.std.proofs.Common.{◌≡◌, ℕ, ◌+◌, ◌*◌, ◌≤◌, Bool, List, [], ◌∷◌, ◌++◌, length, drop, sym, refl, ap, ◌∙◌, append_assoc, arith, length-append}
+use borrow.Rule.Slice.PartMut.{put_mid}
 use Rattle.buckets.specs.Blocks.{size, bodies, pairs}
 use Rattle.buckets.specs.Builds.{over}
 use Rattle.buckets.proofs.Held.{load_is}
+use Rattle.buckets.proofs.Built.{put_is}
 use Rattle.pages.specs.Pages.{used, page_bytes}
-use Rattle.pages.specs.Gathered.{cut, gathered, page_head, pairs_by}
+use Rattle.pages.specs.Gathered.{gathered, page_head, pairs_by}
 use Rattle.pages.specs.declared.builder.PageBuilder.{PageBuilder}
 use Rattle.pages.proofs.Cuts.{length_cut, bodies-cut, size-cut, pairs-cut, cut_push, over-over, length-pairs_by}
 
 module _ (p : PageBuilder) where
   abbrev pub lens_of : List ℕ
-  lens_of = take p.count p.lens
+  lens_of = p.lens.items
 
   abbrev pub bytes_of : List ℕ
-  bytes_of = take p.fill p.bytes
+  bytes_of = p.bytes.items
 
-  pub length-lens_of : length lens_of ≡ p.count
-  length-lens_of = let a = p.listed in let b = p.fits in let c = p.small in length-take-le p.count p.lens (omega arith)
-
-  pub length-bytes_of : length bytes_of ≡ p.fill
-  length-bytes_of = let a = p.held in let b = p.fits in let c = p.small in length-take-le p.fill p.bytes (omega arith)
-
-  full : sum lens_of ≡ length bytes_of
-  full = p.summed ∙ sym length-bytes_of
-
-  pub length-gathered : length (gathered p) ≡ p.count
+  pub length-gathered : length (gathered p) ≡ length lens_of
   unfolding gathered
-  length-gathered = length_cut lens_of bytes_of ∙ length-lens_of
+  length-gathered = length_cut lens_of bytes_of
 
   pub bodies-gathered : bodies (gathered p) ≡ bytes_of
   unfolding gathered
-  bodies-gathered = bodies-cut lens_of bytes_of full
+  bodies-gathered = bodies-cut lens_of bytes_of p.summed
 
   pub pairs-gathered : (from : ℕ) → pairs from (gathered p) ≡ pairs_by from lens_of
   unfolding gathered
-  pairs-gathered from = pairs-cut from lens_of bytes_of full
+  pairs-gathered from = pairs-cut from lens_of bytes_of p.summed
 
-  size-gathered : size (gathered p) ≡ p.fill
+  size-gathered : size (gathered p) ≡ length bytes_of
   unfolding gathered
-  size-gathered = size-cut lens_of bytes_of full ∙ length-bytes_of
+  size-gathered = size-cut lens_of bytes_of p.summed
 
-  pub used-gathered : used (gathered p) ≡ 4 + 4 * p.count + p.fill
+  pub used-gathered : used (gathered p) ≡ 4 + 4 * length lens_of + length bytes_of
   used-gathered = let a = load_is (gathered p) in let b = size-gathered in let c = length-gathered in omega arith
 
   -- what is gathered fits
@@ -49,37 +41,21 @@ module _ (p : PageBuilder) where
   gathered_fits = let a = used-gathered in let b = p.fits in omega arith
 
   -- one record more
-  pub gathered_push : (q : PageBuilder) (item : List ℕ) → q.count ≡ p.count + 1 → q.fill ≡ p.fill + length item → q.lens ≡ set p.lens p.count (length item) → q.bytes ≡ over p.fill item p.bytes → 4 + 4 * p.count + p.fill + (length item + 4) ≤ p.size → gathered q ≡ gathered p ++ item ∷ []
+  pub gathered_push : (q : PageBuilder) (item : List ℕ) → q.lens.items ≡ lens_of ++ length item ∷ [] → q.bytes.items ≡ bytes_of ++ item → gathered q ≡ gathered p ++ item ∷ []
   unfolding gathered
-  gathered_push q item ec ef el eb l =
-      let a = p.listed in
-      let b = p.held in
-      let s = p.small in
-      let lens : take q.count q.lens ≡ lens_of ++ length item ∷ [] =
-      ap (λ n. take n q.lens) ec ∙ ap (take (p.count + 1)) el ∙ take_more_set p.lens p.count (length item) (omega arith)
-      in
-      let rest = drop (p.fill + length item) p.bytes in
-      let long : length (bytes_of ++ item) ≡ q.fill = omega (arith, length-append bytes_of item, length-bytes_of) in
-      let bytes : take q.fill q.bytes ≡ bytes_of ++ item =
-      ap (take q.fill) (eb ∙ sym (append_assoc bytes_of item rest)) ∙ take_at (bytes_of ++ item) rest q.fill long
-      in
-      ap (λ ns. cut ns (take q.fill q.bytes)) lens ∙ ap (cut (lens_of ++ length item ∷ [])) bytes ∙ cut_push lens_of bytes_of item full
-
-  pub gathered_none : p.count ≡ 0 → gathered p ≡ []
-  unfolding gathered
-  gathered_none e = ap (λ n. cut (take n p.lens) bytes_of) e
+  gathered_push q item el eb = rw (el, eb) (cut_push lens_of bytes_of item p.summed)
 
   -- head, pairs and bytes, written one after another
-  pub page_written : (end : Bool) (b : List ℕ) → length b ≡ p.size → over (4 + 4 * p.count) bytes_of (over 4 (pairs_by (4 + 4 * p.count) lens_of) (over 0 (page_head p.count end) b)) ≡ page_bytes (gathered p) end b
+  pub page_written : (end : Bool) (b : List ℕ) → length b ≡ p.size → over (4 + 4 * length lens_of) bytes_of (over 4 (pairs_by (4 + 4 * length lens_of) lens_of) (over 0 (page_head (length lens_of) end) b)) ≡ page_bytes (gathered p) end b
   unfolding page_bytes
   page_written end b e =
-      let head = page_head p.count end in
-      let start = 4 + 4 * p.count in
+      let head = page_head (length lens_of) end in
+      let start = 4 + 4 * length lens_of in
       let ps = pairs_by start lens_of in
-      let pl : length ps ≡ 4 * p.count = length-pairs_by start lens_of ∙ ap (λ n. 4 * n) length-lens_of in
+      let pl = length-pairs_by start lens_of in
       let fits = p.fits in
       let l1 : length (head ++ ps) ≡ start = omega arith in
-      let l2 : length ((head ++ ps) ++ bytes_of) ≡ used (gathered p) = omega (arith, length-append (head ++ ps) bytes_of, length-bytes_of, used-gathered) in
+      let l2 : length ((head ++ ps) ++ bytes_of) ≡ used (gathered p) = omega (arith, length-append (head ++ ps) bytes_of, used-gathered) in
       let e1 = over-over 0 4 head ps b refl (omega arith) in
       let e2 = over-over 0 start (head ++ ps) bytes_of b (omega arith) (omega arith) in
       let rest = drop (used (gathered p)) b in
@@ -92,3 +68,8 @@ module _ (p : PageBuilder) where
       let m = bodies-gathered in
       let e4 : page_bytes (gathered p) end b ≡ head ++ (ps ++ (bytes_of ++ rest)) = rw (q, m, n) in
       ap (over start bytes_of) e1 ∙ e2 ∙ e3 ∙ sym e4
+
+  -- the same, by what each write left
+  pub finished : (end : Bool) (b : List ℕ) → length b ≡ p.size → (at k : ℕ) (head lens bytes mid : List ℕ) → at ≡ 4 + 4 * length lens_of → head ≡ page_head (length lens_of) end → lens ≡ lens_of → bytes ≡ bytes_of → k ≡ length bytes_of → mid ≡ over 4 (pairs_by at lens) (head ++ drop 4 b) → put_mid at k mid bytes ≡ page_bytes (gathered p) end b
+  finished end b same at k head lens bytes mid ea eh el eb ek em =
+      put_is at k mid bytes (ek ∙ ap length (sym eb)) ∙ rw (em, eb, el, eh, ea) (page_written end b same)

@@ -7,7 +7,7 @@ use Rattle.words.specs.BigEndian.{be16}
 use Rattle.records.specs.Items.{offset_at, length_at, page_item}
 use Rattle.records.proofs.Itemized.{item_is}
 use Rattle.buckets.specs.Blocks.{size, bodies, pairs}
-use Rattle.buckets.proofs.Held.{load_is, length_pairs, length-bodies, size-take, pairs_offset, pairs-length, body_at, be16_past, drop_past}
+use Rattle.buckets.proofs.Held.{load_is, length_pairs, length_bodies, size_take, pairs_offset, pairs-length, body_at, be16_past, drop_past}
 use Rattle.pages.specs.Pages.{used, page_bytes}
 use Rattle.pages.specs.Contents.{page_records}
 
@@ -41,7 +41,7 @@ module _ (rs : List (List ℕ)) (end : Bool) (buffer : List ℕ) (small : used r
       ap (take (length (get_or rs i []))) e ∙ body_at rs i _ l
 
   long : 4 + (4 * length rs + size rs) ≤ length (head ++ body)
-  long = simp length-append (omega (arith, length_pairs (4 + 4 * length rs) rs, length-bodies rs))
+  long = simp length-append (omega (arith, length_pairs (4 + 4 * length rs) rs, length_bodies rs))
 
   item_back : (i : ℕ) → i < length rs → page_item (head ++ body) i ≡ Some (get_or rs i [])
   item_back i l =
@@ -49,7 +49,7 @@ module _ (rs : List (List ℕ)) (end : Bool) (buffer : List ℕ) (small : used r
       let n = long in
       let o = offset_at_lem i l in
       let m = length_at_lem i l in
-      let s = size-take rs i l in
+      let s = size_take rs i l in
       item_is 0 4 page i (omega (arith, count_at)) (omega arith) (omega arith) ∙ ap (λ k. Some (take k (drop (offset_at page 4 i) page))) m ∙ ap (λ k. Some (take (length (get_or rs i [])) (drop k page))) o ∙ ap Some (record_at i l)
 
   all_back : (count : ℕ) → count ≡ length rs → map (λ n. unwrap_or (page_item (head ++ body) n) []) (range_with_len 0 count) ≡ rs

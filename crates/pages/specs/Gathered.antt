@@ -17,7 +17,7 @@ cut (n ∷ ns) bytes = take n bytes ∷ cut ns (drop n bytes)
 
 -- the records of a builder, in the order in which they came
 unfoldable pub gathered : PageBuilder → List (List ℕ)
-gathered page = cut (take page.count page.lens) (take page.fill page.bytes)
+gathered page = cut page.lens.items page.bytes.items
 
 -- the count of records, the end mark and a zero
 abbrev pub page_head : ℕ → Bool → List ℕ

@@ -1,4 +1,7 @@
-ghost use Rattle.std.specs.Prelude.{◌≡◌, ◌+◌, ◌*◌, ◌≤◌, length, take, sum};
+ghost use Rattle.std.specs.Prelude.{◌≡◌, ◌+◌, ◌*◌, ◌≤◌, sum};
+ghost use Rattle.arrayvec.specs.ArrayVec.{array_vec_len};
+
+use arrayvec::ArrayVec;
 
 // Gathers the records of a page. Where they stand in it is known only once their count is, so that they are kept
 // aside without gaps.
@@ -6,15 +9,11 @@ ghost use Rattle.std.specs.Prelude.{◌≡◌, ◌+◌, ◌*◌, ◌≤◌, leng
 pub struct PageBuilder {
     // the bytes of the page
     pub(crate) size: usize,
-    // how many records there are, and how long each is
-    pub(crate) count: usize,
-    pub(crate) lens: [u16; 1024],
+    // how long each record is
+    pub(crate) lens: ArrayVec<u16, 1024>,
     // their bytes, one record after another
-    pub(crate) fill: usize,
-    pub(crate) bytes: [u8; 4096],
-    ghost listed: { length lens ≡ 1024 },
-    ghost held: { length bytes ≡ 4096 },
-    ghost fits: { 4 + 4 * count + fill ≤ size },
+    pub(crate) bytes: ArrayVec<u8, 4096>,
+    ghost fits: { 4 + 4 * array_vec_len lens + array_vec_len bytes ≤ size },
     ghost small: { size ≤ 4096 },
-    ghost summed: { sum (take count lens) ≡ fill },
+    ghost summed: { sum lens.items ≡ array_vec_len bytes },
 }

@@ -1,44 +1,31 @@
-ghost use Rattle.std.specs.Prelude.{◌≡◌, ◌+◌, ◌*◌, ◌<◌, ◌≤◌, true, false, [], ◌∷◌, ◌++◌, length, if◌then◌else◌, Some, None, sum, MatchOption, nat_eq, nat_le};
-ghost use Rattle.buckets.specs.Builds.{over, pair};
+ghost use Rattle.std.specs.Prelude.{◌≡◌, ◌+◌, ◌*◌, ◌<◌, ◌≤◌, true, false, [], ◌∷◌, ◌++◌, length, if◌then◌else◌, Some, None, sum, MatchOption, is_ok, nat_eq, nat_le};
+ghost use Rattle.buckets.specs.Builds.{over};
 ghost use Rattle.records.specs.Records.{weight};
 ghost use Rattle.pages.specs.Pages.{used, page_bytes};
 ghost use Rattle.pages.specs.Gathered.{is_page_size, gathered, answer_of, page_head, pairs_by};
 
 use crate::answer::PageAnswer;
 use crate::builder::PageBuilder;
+use arrayvec::ArrayVec;
+use buckets::pair_bytes;
+use records::PAIR;
 
 // The bytes of a page's head: the count of records, the end mark and a zero.
 const HEAD: usize = 4;
-
-// The bytes of a record's pair, its offset and its length.
-const PAIR: usize = 4;
 
 const MIN_SIZE: usize = 64;
 
 const MAX_SIZE: usize = 4096;
 
-fn write(buffer: &mut [u8], at: usize, bytes: &[u8])
-    requires { at + length bytes.now ≤ length buffer.old }
-    ensures { buffer.new ≡ over at bytes.now buffer.old }
-{
-    buffer[at..at + bytes.len()].copy_from_slice(bytes);
-}
+// A record no longer fits onto a page.
+#[derive(Clone, Copy, Debug, PartialEq, Eq)]
+pub struct Full;
 
-fn write_head(buffer: &mut [u8], count: usize, end: bool)
-    requires { (4 ≤ length buffer.old) × (count < 65536) }
-    ensures { buffer.new ≡ over 0 (page_head count end) buffer.old }
+fn head_bytes(count: u16, end: bool) -> [u8; 4]
+    ensures { result ≡ page_head count end }
 {
-    let [a, b] = (count as u16).to_be_bytes();
-    write(buffer, 0, &[a, b, u8::from(end), 0]);
-}
-
-fn write_pair(buffer: &mut [u8], at: usize, offset: usize, len: u16)
-    requires { (at + 4 ≤ length buffer.old) × (offset < 65536) }
-    ensures { buffer.new ≡ over at (pair offset len) buffer.old }
-{
-    let [a, b] = (offset as u16).to_be_bytes();
-    let [c, d] = len.to_be_bytes();
-    write(buffer, at, &[a, b, c, d]);
+    let [a, b] = count.to_be_bytes();
+    [a, b, u8::from(end), 0]
 }
 
 // The pairs of records of these lengths, the first of which starts at `start`.
@@ -48,43 +35,42 @@ fn write_pairs(buffer: &mut [u8], lens: &[u16], start: usize)
 {
     let mut offset = start;
     for (n, len) in lens.iter().enumerate() {
-        write_pair(buffer, HEAD + PAIR * n, offset, *len);
+        let at = HEAD + PAIR * n;
+        buffer[at..at + PAIR].copy_from_slice(&pair_bytes(offset as u16, *len));
         offset += usize::from(*len);
     }
 }
 
 impl PageBuilder {
     // An empty page, for a buffer of a lawful size.
+    #[tactic(auto, unfolding(crate::specs::Gathered::gathered))]
     pub fn new(size: usize) -> Option<PageBuilder>
         ensures { MatchOption result (is_page_size size ≡ false) (λ page. (is_page_size size ≡ true) × (page.size ≡ size) × (gathered page ≡ [])) }
     {
-        if size < MIN_SIZE || size > MAX_SIZE {
+        if !(MIN_SIZE..=MAX_SIZE).contains(&size) {
             return None;
         }
         Some(PageBuilder {
             size,
-            count: 0,
-            lens: [0; 1024],
-            fill: 0,
-            bytes: [0; 4096],
+            lens: ArrayVec::new(),
+            bytes: ArrayVec::new(),
         })
     }
 
     // Takes one more record, if it still fits with its pair.
-    pub fn push(&mut self, item: &[u8]) -> bool
-        ensures taken { result ≡ nat_le (used (gathered self.old) + weight item.now) self.old.size }
-        ensures after { gathered self.new ≡ (if result then gathered self.old ++ item.now ∷ [] else gathered self.old) }
+    #[tactic(auto, using(crate::proofs::Cuts::load_cut, crate::proofs::Cuts::cut_push), unfolding(crate::specs::Gathered::gathered))]
+    pub fn push(&mut self, item: &[u8]) -> Result<(), Full>
+        ensures taken { is_ok result ≡ nat_le (used (gathered self.old) + weight item.now) self.old.size }
+        ensures after { gathered self.new ≡ (if is_ok result then gathered self.old ++ item.now ∷ [] else gathered self.old) }
         ensures size { self.new.size ≡ self.old.size }
     {
-        let left = self.size - (HEAD + PAIR * self.count + self.fill);
+        let left = self.size - (HEAD + PAIR * self.lens.len() + self.bytes.len());
         if left < PAIR || left - PAIR < item.len() {
-            return false;
+            return Err(Full);
         }
-        write(&mut self.bytes, self.fill, item);
-        self.lens[self.count] = item.len() as u16;
-        self.count += 1;
-        self.fill += item.len();
-        true
+        self.bytes.try_extend_from_slice(item).unwrap();
+        self.lens.push(item.len() as u16);
+        Ok(())
     }
 
     // The page in a buffer of its size. Bytes beyond stay, and so does a buffer of another size.
@@ -95,13 +81,15 @@ impl PageBuilder {
         if buffer.len() != self.size {
             return None;
         }
-        let start = HEAD + PAIR * self.count;
-        write_head(buffer, self.count, end);
-        write_pairs(buffer, &self.lens[..self.count], start);
-        write(buffer, start, &self.bytes[..self.fill]);
+        let count = self.lens.len() as u16;
+        let start = HEAD + PAIR * self.lens.len();
+        let used = start + self.bytes.len();
+        buffer[..HEAD].copy_from_slice(&head_bytes(count, end));
+        write_pairs(buffer, &self.lens, start);
+        buffer[start..used].copy_from_slice(&self.bytes);
         Some(PageAnswer {
-            count: self.count as u16,
-            used: (start + self.fill) as u16,
+            count,
+            used: used as u16,
             end,
         })
     }

@@ -7,3 +7,4 @@ mod gather;
 
 pub use answer::PageAnswer;
 pub use builder::PageBuilder;
+pub use gather::Full;

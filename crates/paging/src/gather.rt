@@ -35,7 +35,7 @@ fn take_from(block: &[u8], from: usize, page: &mut PageBuilder) -> Option<bool>
     ensures took { MatchOption result (Unreadable (records_in block.now)) (λ whole. Took page.old.size (gathered page.old) (drop from (records_in block.now)) (gathered page.new) whole) }
 {
     for n in from..bucket_count(block) {
-        if !page.push(record_at(block, n)?) {
+        if page.push(record_at(block, n)?).is_err() {
             return Some(false);
         }
     }

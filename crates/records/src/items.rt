@@ -7,6 +7,9 @@ ghost use Rattle.records.specs.Items.{item_at, bucket_item, page_item, records_i
 use crate::record::read_record;
 use words::u16_at;
 
+// The bytes of a record's pair, its offset and its length.
+pub const PAIR: usize = 4;
+
 // The first `len` bytes of a part that starts inside a block or page.
 fn front(part: &[u8], len: usize) -> Option<&[u8]>
     ensures { option_map (λ x. x.now) result ≡ (if nat_le len (length part.now) then Some (take len part.now) else None) }
@@ -23,7 +26,7 @@ fn item(bytes: &[u8], count: usize, pairs: usize, n: usize) -> Option<&[u8]>
     if n >= usize::from(u16_at(bytes, count)?) {
         return None;
     }
-    let pair = pairs + 4 * n;
+    let pair = pairs + PAIR * n;
     let offset = u16_at(bytes, pair)?;
     let len = u16_at(bytes, pair + 2)?;
     let part = bytes.get(usize::from(offset)..)?;

@@ -5,6 +5,6 @@ mod items;
 mod record;
 mod search;
 
-pub use items::{bucket_count, bucket_key, bucket_record, page_record};
+pub use items::{PAIR, bucket_count, bucket_key, bucket_record, page_record};
 pub use record::{MAX_RECORD, Record, read_record};
 pub use search::{find, place_for};

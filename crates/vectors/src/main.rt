@@ -43,10 +43,7 @@ fn print_hashes(rt: &HostRuntime) -> io::Result<()> {
 
 // Puts three records into an empty bucket, shows it after each, and takes one out again.
 fn fill_bucket(rt: &HostRuntime) -> io::Result<()> {
-    let mut block = [0; 512];
-    if let Some(empty) = build(ALL, &Whole { block: &[] }) {
-        block = empty;
-    }
+    let mut block = build(ALL, &Whole { block: &[] }).unwrap_or([0; 512]);
     show(rt, "empty", &block)?;
     for record in RECORDS {
         if let Some(after) = bucket::put(&block, &record) {
@@ -69,11 +66,9 @@ fn fill_bucket(rt: &HostRuntime) -> io::Result<()> {
 // Prints the names in a block, whether it is a bucket block, and its first bytes.
 fn show(rt: &HostRuntime, step: &str, block: &[u8; 512]) -> io::Result<()> {
     print!(rt; "{step}:")?;
-    for n in 0..bucket_count(block) {
-        if let Some(key) = bucket_key(block, n) {
-            for byte in key {
-                print!(rt; " {byte:02X}")?;
-            }
+    for key in (0..bucket_count(block)).filter_map(|n| bucket_key(block, n)) {
+        for byte in key {
+            print!(rt; " {byte:02X}")?;
         }
     }
     let verdict = if is_bucket::<ExactNames>(ALL, block) {
@@ -82,7 +77,7 @@ fn show(rt: &HostRuntime, step: &str, block: &[u8; 512]) -> io::Result<()> {
         "no bucket"
     };
     println!(rt; ", {verdict}")?;
-    for byte in &block[0..40] {
+    for byte in &block[..40] {
         print!(rt; "{byte:02X}")?;
     }
     println!(rt; "")

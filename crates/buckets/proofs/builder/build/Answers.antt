@@ -1,36 +1,23 @@
-use Rattle.std.proofs.Common.{◌≡◌, ℕ, ◌≤◌, length, replicate, Some, sym, refl, ap, ◌∙◌, arith}
-use Rattle.std.proofs.lemmas.Bool.{leb-true, cond-true, cond-false}
+use Rattle.std.proofs.Common.{◌≡◌, ◌≤◌, ◌++◌, drop, Some, sym, ap, ◌∙◌, arith}
+use Rattle.std.proofs.lemmas.Bool.{cond-true, le-leb}
 use Rattle.records.specs.Records.{load}
 use Rattle.records.specs.Items.{records_in}
 use Rattle.buckets.specs.Blocks.{bucket_bytes}
 use Rattle.buckets.proofs.Held.{load_is, records_back}
-use Rattle.buckets.proofs.Built.{length-partly, headed}
+use Rattle.buckets.proofs.Built.{headed}
 use Rattle.buckets.proofs.builder.build.Goals as goal
 
-pub returns-then-not-is_light : goal.returns-then-not-is_light
-returns-then-not-is_light g c = record {
-  bytes = sym (cond-false _ _ _ (sym c.is_light.ensures ∙ c.if-not-is_light.true));
-  back = tt;
-}
-
-pub lay_records-block-requires : goal.lay_records-block-requires
-lay_records-block-requires g c = leb-true (load (g.S.Source.records c.args.source.now)) 504 (sym c.is_light.ensures ∙ c.if-not-is_light.false)
-
-pub write_heading-requires : goal.write_heading-requires
-write_heading-requires g c =
-    let rs = g.S.Source.records c.args.source.now in
-    let light : load rs ≤ 504 = leb-true (load rs) 504 (sym c.is_light.ensures ∙ c.if-not-is_light.false) in
-    let n = ap length c.lay_records-block.ensures ∙ length-partly (replicate {A = ℕ} 8 0) refl rs light (length rs) (omega arith) in
-    (omega arith, omega (arith, load_is rs))
+pub overflow_cast-count : goal.overflow_cast-count
+overflow_cast-count g c = omega (arith, load_is (g.S.Source.records c.args.source.now), c.in_ok-room_left.ensures)
 
 pub returns : goal.returns
 returns g c =
     let rs = g.S.Source.records c.args.source.now in
-    let test = sym c.is_light.ensures ∙ c.if-not-is_light.false in
-    let light : load rs ≤ 504 = leb-true (load rs) 504 test in
+    let left = c.in_ok-room_left.ensures in
+    let light : load rs ≤ 504 = omega arith in
     let bytes = headed c.args.prefix rs light in
-    let e : c.write_heading.new.block ≡ bucket_bytes c.args.prefix rs = cc in
+    let e : c.copy_from_slice.new.self ++ drop 8 c.lay_records-block.result ≡ bucket_bytes c.args.prefix rs = rw (c.copy_from_slice.ensures.after, c.heading_bytes.ensures, c.count.ensures, c.lay_records-block.ensures) bytes in
     record {
-      bytes = ap Some e ∙ sym (cond-true _ _ _ test);
+      bytes = ap Some e ∙ sym (cond-true _ _ _ (le-leb (load rs) 504 light));
       back = ap records_in e ∙ records_back c.args.prefix rs light;
     }

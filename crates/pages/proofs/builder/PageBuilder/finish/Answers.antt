@@ -1,8 +1,7 @@
-use Rattle.std.proofs.Common.{◌≡◌, ◌+◌, ◌*◌, length, Some, None, sym, ◌∙◌, arith}
+use Rattle.std.proofs.Common.{◌+◌, ◌*◌, length, Some, None, sym, ap, ◌∙◌, arith}
 use Rattle.std.proofs.lemmas.Bool.{eq-eqb, cond-true}
-use Rattle.buckets.specs.Builds.{over}
-use Rattle.pages.specs.Gathered.{page_head, pairs_by, gathered, answer_of}
-use Rattle.pages.proofs.Gathers.{length-gathered, used-gathered, page_written, lens_of, bytes_of}
+use Rattle.pages.specs.Gathered.{gathered, answer_of, page_head}
+use Rattle.pages.proofs.Gathers.{length-gathered, used-gathered, finished}
 use Rattle.pages.proofs.builder.PageBuilder.finish.Goals as goal
 
 pub returns : goal.returns
@@ -10,14 +9,13 @@ returns c =
     let p = c.args.self.now in
     let b = c.args.buffer.now in
     let end = c.args.end in
-    let same : length b ≡ p.size = omega arith in
-    let test = eq-eqb (length b) p.size same in
+    let test = eq-eqb (length b) p.size (omega arith) in
     let n = length-gathered p in
     let u = used-gathered p in
-    let start = 4 + 4 * p.count in
-    let w : c.write.new.buffer ≡ over start (bytes_of p) (over 4 (pairs_by start (lens_of p)) (over 0 (page_head p.count end) b)) = cc in
     let answer = cond-true _ (Some (answer_of (gathered p) end)) None test in
     record {
       answer = (cc);
-      page = w ∙ page_written p end b same ∙ sym (cond-true _ _ _ test);
+      page =
+          finished p end b (omega arith) (4 + 4 * c.len.result) _ c.copy_from_slice.new.self c.deref.result.now c.copy_from_slice-2.new.self c.write_pairs.new.buffer (omega arith) (c.copy_from_slice.ensures.after ∙ c.head_bytes.ensures ∙ ap (λ k. page_head k end) c.len-count.ensures.value) c.deref.ensures.0 (c.copy_from_slice-2.ensures.after ∙ c.deref-2.ensures.0) (omega arith) c.write_pairs.ensures
+          ∙ sym (cond-true _ _ _ test);
     }
