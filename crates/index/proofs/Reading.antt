@@ -1,15 +1,18 @@
 -- What a stored index tells: its header is lawful, its pointers lead to its buckets, and these hold its records.
-use Rattle.std.proofs.Common.{◌≡◌, ℕ, ◌+◌, ◌/◌, ◌^◌, ◌<◌, ◌≤◌, true, eqb, List, [], ◌∷◌, length, get_or, Some, sum_by, Equal, sym, refl, ap, ◌∙◌, subst, arith}
+use Rattle.std.proofs.Common.{◌≡◌, ℕ, ◌+◌, ◌/◌, ◌^◌, ◌<◌, ◌≤◌, true, eqb, List, [], ◌∷◌, length, get_or, Option, Some, None, Ok, sum_by, Equal, sym, refl, ap, ◌∙◌, subst, arith}
 use Rattle.std.specs.Ordering.{is_eq}
+use Rattle.std.specs.Option.{option_map}
 use Rattle.std.proofs.lemmas.List.FromFn.{length-map-range_with_len, get_or-map-range_with_len}
 use Rattle.std.proofs.lemmas.Nat.{div_below}
 use Rattle.std.proofs.ByRecursion.{All-from_get_or}
 use Rattle.std.proofs.lemmas.List.Sums.{sum_by-cons}
 use Rattle.std.proofs.lemmas.Bool.{eq-eqb, cond-true, and_from, le-leb}
-use Rattle.kinds.specs.Kinds.{Kind, AlikeHash, Bounded}
+use Rattle.kinds.specs.Kinds.{Kind, AlikeHash, Bounded, TotalOrder}
 use Rattle.records.specs.Records.{key_of, weight, load}
 use Rattle.records.specs.Items.{records_in}
 use Rattle.records.specs.Searches.{key_at, Sorted}
+use Rattle.records.specs.Searches.{Finds as Among}
+use Rattle.records.proofs.Alike.{alike-found, alike-absent}
 use Rattle.records.specs.Ordered.{alike}
 use Rattle.records.proofs.Kept.{kept_within}
 use Rattle.records.proofs.Rising.{sorted_kept}
@@ -20,6 +23,7 @@ use Rattle.shape.specs.Shapes.{under, prefix_of}
 use Rattle.shape.specs.Keyed.{by_key}
 use Rattle.shape.proofs.Rooms.{room_le, room_held}
 use Rattle.shape.proofs.Halves.{prefix_far}
+use Rattle.index.specs.Searching.{Finds}
 use Rattle.index.specs.Stored.{Blocks, block, prefix_at, room_at, rooms, slots, Stored, BucketIn}
 
 pub length-slots : (header : List ℕ) → length (slots header) ≡ 128
@@ -119,3 +123,8 @@ module _ (kind : Kind) where
 
       pub told-alike : alike kind key (records_in bytes) ≡ alike kind key rs
       told-alike = ap (alike kind key) (records-told (kind.hash key) (bounded.narrow key lk) number bytes here) ∙ alike-under level key lk (room_at kind rs (kind.hash key / 2 ^ 25)) rs st.sorted
+
+      -- what it finds there is what there is
+      pub finds-told : TotalOrder kind.lawful kind.order → (r : Option ℕ) → Among kind (records_in bytes) key r → Finds kind rs key (Ok (option_map (λ place. record { block = bytes; place = place }) r))
+      finds-told ordered (Some n) f = sym told-alike ∙ alike-found kind ordered level key lk _ told-sorted n f.0 f.3
+      finds-told ordered None f = sym told-alike ∙ alike-absent kind ordered level key lk _ told-sorted (f told-sorted lk)

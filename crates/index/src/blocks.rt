@@ -12,10 +12,10 @@ pub fn read_block<D: Device>(device: &D, number: u16) -> Result<[u8; 512], Fault
     ensures { MatchResult result (λ bytes. (number < length (D.Device.contents device.now)) × (bytes ≡ slice_index_or (D.Device.contents device.now) number [])) (λ e. (e ≡ Broken) × (length (D.Device.contents device.now) ≤ number)) }
 {
     let mut bytes = [0; BLOCK_SIZE];
-    match device.read(u32::from(number), &mut bytes) {
-        Ok(()) => Ok(bytes),
-        Err(_) => Err(Fault::Broken),
-    }
+    device
+        .read(u32::from(number), &mut bytes)
+        .map_err(|_| Fault::Broken)?;
+    Ok(bytes)
 }
 
 // A bucket block and its number.
@@ -29,9 +29,7 @@ pub struct Bucket {
 pub fn read_bucket<D: Device>(device: &D, header: &[u8], hash: u32) -> Result<Bucket, Fault>
     ensures { MatchResult result (λ b. BucketIn (D.Device.contents device.now) header.now hash b.number b.block) (λ e. (e ≡ Broken) × ((n : ℕ) → n < length (D.Device.contents device.now) → pointer_in header.now hash ≢ Some n)) }
 {
-    let Some(number) = pointer_for(header, hash) else {
-        return Err(Fault::Broken);
-    };
+    let number = pointer_for(header, hash).ok_or(Fault::Broken)?;
     let block = read_block(device, number)?;
     Ok(Bucket { number, block })
 }

@@ -1,3 +1,6 @@
+use std::error::Error;
+use std::fmt;
+
 // Why an index refuses a call.
 #[derive(Clone, Copy, Debug, PartialEq, Eq)]
 pub enum Fault {
@@ -10,3 +13,16 @@ pub enum Fault {
     // the blocks are not those of an index
     Broken,
 }
+
+impl fmt::Display for Fault {
+    fn fmt<W: fmt::Write>(&self, f: &mut fmt::Formatter<W>) -> fmt::Result {
+        f.write_str(match self {
+            Fault::BadRecord => "refused 7, a bad record",
+            Fault::Full => "refused 15, a prefix of 7 bits is too heavy",
+            Fault::NoRoom => "no room",
+            Fault::Broken => "no index",
+        })
+    }
+}
+
+impl Error for Fault {}

@@ -23,11 +23,9 @@ pub fn find<D: Device, K: KeyKind>(
     }
     let header = read_block(device, head)?;
     let bucket = read_bucket(device, &header, K::hash(key))?;
-    match records::find::<K>(&bucket.block, key) {
-        Some(place) => Ok(Some(Found {
-            block: bucket.block,
-            place,
-        })),
-        None => Ok(None),
-    }
+    let found = records::find::<K>(&bucket.block, key).map(|place| Found {
+        block: bucket.block,
+        place,
+    });
+    Ok(found)
 }

@@ -6,43 +6,31 @@ ghost use Rattle.listings.specs.Indexes.{FolderTells, RegisterTells};
 ghost use Rattle.listings.specs.Listings.{ListingLaw};
 
 // Every listing in every history is complete.
-pub fn listings_hold() -> u8
+pub fn listings_hold()
     ensures { ListingLaw }
-{
-    0
-}
+{}
 
 // A folder's index has what lookup finds.
-pub fn folders_tell_the_tree() -> u8
+pub fn folders_tell_the_tree()
     ensures { FolderTells }
-{
-    0
-}
+{}
 
 // The register has each object under its number.
-pub fn register_tells_the_tree() -> u8
+pub fn register_tells_the_tree()
     ensures { RegisterTells }
-{
-    0
-}
+{}
 
 // A create puts one record into the folder's index and one into the register.
-pub fn creates_put_records() -> u8
+pub fn creates_put_records()
     ensures { CreatePuts }
-{
-    0
-}
+{}
 
 // A remove takes one record out of each.
-pub fn removes_take_records() -> u8
+pub fn removes_take_records()
     ensures { RemoveTakes }
-{
-    0
-}
+{}
 
 // A rename takes a record out of one folder's index, puts one into the target's, and replaces the one in the register.
-pub fn renames_move_records() -> u8
+pub fn renames_move_records()
     ensures { RenameMoves }
-{
-    0
-}
+{}

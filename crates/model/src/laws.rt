@@ -2,78 +2,56 @@
 ghost use Rattle.model.specs.Laws.{StaysSound, ParentsLead, NamesApart, ImageFits, NumbersOnce, LeasesBalance, RefusedKeeps, TopmostCounts, OpenKeeps, FullnessDecided, BranchDecided};
 
 // The tree stays sound.
-pub fn trees_stay_sound() -> u8
+pub fn trees_stay_sound()
     ensures { StaysSound }
-{
-    0
-}
+{}
 
 // Every object's parents lead to the root.
-pub fn parents_lead_to_the_root() -> u8
+pub fn parents_lead_to_the_root()
     ensures { ParentsLead }
-{
-    0
-}
+{}
 
 // No two objects of a folder have alike names.
-pub fn names_stay_apart() -> u8
+pub fn names_stay_apart()
     ensures { NamesApart }
-{
-    0
-}
+{}
 
 // The tree's image fits onto the device.
-pub fn images_fit() -> u8
+pub fn images_fit()
     ensures { ImageFits }
-{
-    0
-}
+{}
 
 // No number is given twice between two formats.
-pub fn numbers_are_given_once() -> u8
+pub fn numbers_are_given_once()
     ensures { NumbersOnce }
-{
-    0
-}
+{}
 
 // The leases out are those given less those closed.
-pub fn leases_balance() -> u8
+pub fn leases_balance()
     ensures { LeasesBalance }
-{
-    0
-}
+{}
 
 // A refused call leaves state and buffer.
-pub fn refusals_keep_all() -> u8
+pub fn refusals_keep_all()
     ensures { RefusedKeeps }
-{
-    0
-}
+{}
 
 // Of several reasons the topmost counts.
-pub fn topmost_reason_counts() -> u8
+pub fn topmost_reason_counts()
     ensures { TopmostCounts }
-{
-    0
-}
+{}
 
 // A live server's open keeps the tree.
-pub fn open_keeps_the_tree() -> u8
+pub fn open_keeps_the_tree()
     ensures { OpenKeeps }
-{
-    0
-}
+{}
 
 // The test for indexes that cannot be held is right.
-pub fn fullness_is_decided() -> u8
+pub fn fullness_is_decided()
     ensures { FullnessDecided }
-{
-    0
-}
+{}
 
 // The test for a folder's own branch is right.
-pub fn branches_are_decided() -> u8
+pub fn branches_are_decided()
     ensures { BranchDecided }
-{
-    0
-}
+{}
