@@ -2,6 +2,7 @@
 use Rattle.std.proofs.Common.{◌≡◌, ℕ, zero, suc, ◌+◌, ◌*◌, ◌/◌, ◌^◌, ◌<◌, ◌≤◌, true, false, List, ◌∷◌, length, get_or, sym, refl, ap, ◌∙◌, subst, ⊎_elim, arith, length-append}
 use Rattle.std.proofs.lemmas.List.{ext_get_or}
 use Rattle.std.proofs.lemmas.Bool.{cases_eq, cases_Bool}
+use Rattle.arrayvec.specs.ArrayVec.{array_vec_len}
 use Rattle.kinds.specs.Kinds.{Kind}
 use Rattle.header.specs.Headers.{Lawful, Encodes, deepest}
 use Rattle.shape.specs.Shapes.{Measure, is_light}
@@ -16,7 +17,7 @@ use Rattle.plans.specs.Planned.{Planned, Spare}
 use Rattle.plans.proofs.Merges.{run_pointer}
 use Rattle.changes.specs.Relaying.{Relaid}
 use Rattle.changes.specs.Making.{Headed}
-use Rattle.changes.proofs.Naming.{lays, room_on, room_off, rooms-are, lawful-new, slots-told}
+use Rattle.changes.proofs.Naming.{long_new, room_on, room_off, rooms-are, lawful-new, slots-told}
 
 -- a prefix with one bucket is that bucket's
 one_room : {X : Type 0} (m : Measure X) (k p : ℕ) (rs : List X) (s : ℕ) → length (leaves m k p rs) ≡ 1 → s / 2 ^ k ≡ p → room m k rs s ≡ k
@@ -31,7 +32,7 @@ one_room m (suc k) p rs s l e = ⊎_elim
 
 module _ (kind : Kind) (blocks : Blocks) (head : ℕ) (old new : List (List ℕ)) (plan : Plan) (spare : List ℕ)
     (st : Stored kind blocks head old) (pl : Planned kind (block blocks head) old new plan) (sp : Spare kind blocks head old spare)
-    (enough : plan.laid.len ≤ 1 + length spare) where
+    (enough : array_vec_len plan.laid ≤ 1 + length spare) where
   -- slots that were named anew, in a block
   pub headed : (slots' rooms' after : List ℕ) (count : ℕ) → Relaid kind new plan.room (plan.slot / 2 ^ plan.room) (plan.number ∷ spare) (slots (block blocks head)) (rooms kind old) slots' rooms'
       → length slots' ≡ 128 → length rooms' ≡ 128 → count ≡ length new → Encodes count (deepest rooms') slots' after → Headed kind (block blocks head) old new plan spare after
@@ -53,9 +54,9 @@ module _ (kind : Kind) (blocks : Blocks) (head : ℕ) (old new : List (List ℕ)
       subst (λ n. Lawful n slots' rooms') (sym pl.counted) (subst (Lawful (length new) slots') (sym are) (lawful-new kind blocks head old new plan spare st pl sp enough slots' rooms' rl sl pl.countable))
 
   -- one bucket in place of one with the same prefix: no slot is named anew
-  module _ (one : plan.laid.len ≡ 1) (same : plan.room ≡ plan.start) where
+  module _ (one : array_vec_len plan.laid ≡ 1) (same : plan.room ≡ plan.start) where
     long : length (leaves (by_key kind) plan.room (plan.slot / 2 ^ plan.room) new) ≡ 1
-    long = sym (lays kind blocks head old new plan spare st pl sp enough).long ∙ one
+    long = sym (long_new kind blocks head old new plan spare st pl sp enough) ∙ one
 
     start : room_at kind old plan.slot ≡ plan.room
     start = sym pl.start ∙ sym same

@@ -4,6 +4,7 @@ use Rattle.std.proofs.ByRecursion.{All-get_or}
 use Rattle.std.proofs.lemmas.List.{get_or-map, length-map, ext_get_or}
 use Rattle.std.proofs.lemmas.Bool.{cases_eq, cases_lt, both_ways, eq-eqb, ne_eqb, eqb-true}
 use Rattle.std.proofs.lemmas.Nat.{pow_pos}
+use Rattle.arrayvec.specs.ArrayVec.{array_vec_len}
 use Rattle.kinds.specs.Kinds.{Kind}
 use Rattle.buckets.specs.Blocks.{bucket_bytes}
 use Rattle.header.specs.Headers.{Lawful, RunAt, Encodes, deepest, together}
@@ -61,7 +62,7 @@ module _ (kind : Kind) (blocks : Blocks) (head : ℕ) (old : List (List ℕ)) (s
 
 module _ (kind : Kind) (blocks : Blocks) (head : ℕ) (old new : List (List ℕ)) (plan : Plan) (spare : List ℕ)
     (st : Stored kind blocks head old) (pl : Planned kind (block blocks head) old new plan) (sp : Spare kind blocks head old spare)
-    (enough : plan.laid.len ≤ 1 + length spare) where
+    (enough : array_vec_len plan.laid ≤ 1 + length spare) where
   abbrev K : ℕ
   K = plan.room
 
@@ -77,13 +78,18 @@ module _ (kind : Kind) (blocks : Blocks) (head : ℕ) (old new : List (List ℕ)
   abbrev L : List Leaf
   L = leaves (by_key kind) plan.room (plan.slot / 2 ^ plan.room) new
 
-  pub lays : Lays kind new K p plan spare
+  pub long_new : array_vec_len plan.laid ≡ length L
+  long_new = pl.laid.long ∙ sym (length-leaves (by_key kind) K p new)
+
+  pub some_laid : 1 ≤ array_vec_len plan.laid
+  some_laid = omega (arith, (leaf_at (by_key kind) K p new plan.slot (leaf 0 0) refl).0, long_new)
+
+  pub lays : Lays kind new K p ns plan.laid.items
   lays = record {
     deep = pl.deep;
     small = slot_prefix plan.slot plan.room pl.slot pl.deep;
     laid = pl.laid.blocks;
-    long = pl.laid.long ∙ sym (length-leaves (by_key kind) K p new);
-    enough = enough;
+    enough = omega arith;
   }
 
   pub old_room : room_at kind old plan.slot ≤ K
@@ -129,7 +135,7 @@ module _ (kind : Kind) (blocks : Blocks) (head : ℕ) (old new : List (List ℕ)
     rooms-are long = ext_get_or 0 rooms' (rooms kind new) (long ∙ sym (length-rooms kind new)) (λ s l. let m : s < 128 = omega (arith, long) in rooms-each s m ∙ sym (get_or-rooms kind new s m))
 
     -- the new blocks are all different
-    pub apart : (i j : ℕ) → i < j → j < plan.laid.len → get_or ns i 0 ≡ get_or ns j 0 → ⊥
+    pub apart : (i j : ℕ) → i < j → j < array_vec_len plan.laid → get_or ns i 0 ≡ get_or ns j 0 → ⊥
     apart i zero l b e = absurd (omega arith)
     apart zero (suc j) l b e =
         let n = pointer_home kind blocks head old st plan.slot pl.slot in
@@ -139,7 +145,7 @@ module _ (kind : Kind) (blocks : Blocks) (head : ℕ) (old new : List (List ℕ)
     apart (suc i) (suc j) l b e = omega (arith, times_twice spare i j (omega arith) (omega (arith, enough)) e, sp.apart (get_or spare j 0))
 
     -- none is the bucket of a slot elsewhere
-    pub elsewhere : (i t : ℕ) → i < plan.laid.len → t < 128 → (t / 2 ^ K ≡ p → ⊥) → get_or ns i 0 ≡ get_or S t 0 → ⊥
+    pub elsewhere : (i t : ℕ) → i < array_vec_len plan.laid → t < 128 → (t / 2 ^ K ≡ p → ⊥) → get_or ns i 0 ≡ get_or S t 0 → ⊥
     elsewhere zero t l lt ne e =
         let z : get_or S t 0 ≡ get_or S plan.slot 0 = sym e ∙ pl.number in
         let r = st.runs plan.slot pl.slot t lt in
@@ -149,8 +155,8 @@ module _ (kind : Kind) (blocks : Blocks) (head : ℕ) (old new : List (List ℕ)
         let n = pointer_home kind blocks head old st t lt in
         omega (arith, m, subst (λ x. 1 ≤ times x (home kind blocks head old)) (sym e) n, sp.apart (get_or spare i 0))
 
-    pub place-small : (s : ℕ) → s / 2 ^ K ≡ p → place_of (by_key kind) K p new s < plan.laid.len
-    place-small s e = omega (arith, (leaf_at (by_key kind) K p new s (leaf 0 0) e).0, lays.long)
+    pub place-small : (s : ℕ) → s / 2 ^ K ≡ p → place_of (by_key kind) K p new s < array_vec_len plan.laid
+    place-small s e = omega (arith, (leaf_at (by_key kind) K p new s (leaf 0 0) e).0, long_new)
 
     pub leaf-of : (s : ℕ) → s / 2 ^ K ≡ p → get_or L (place_of (by_key kind) K p new s) (leaf 0 0) ≡ leaf (room_at kind new s) (s / 2 ^ room_at kind new s)
     leaf-of s e = (leaf_at (by_key kind) K p new s (leaf 0 0) e).1 ∙ ap (λ n. leaf n (s / 2 ^ n)) (sym (room_on s e))

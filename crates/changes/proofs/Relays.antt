@@ -1,11 +1,13 @@
 -- Naming buckets in their slots, one after another.
-use Rattle.std.proofs.Common.{◌≡◌, ℕ, zero, suc, ◌+◌, ◌*◌, ◌/◌, ◌%◌, ◌^◌, ◌<◌, ◌≤◌, true, false, cond, ◌&&◌, ltb, leb, List, length, get_or, set, sym, refl, ap, ◌∙◌, subst, ⊎_elim, mul_assoc, mul_comm, add-mul, add-one, arith}
+use Rattle.std.proofs.Common.{◌≡◌, ℕ, zero, suc, ◌+◌, ◌-◌, ◌*◌, ◌/◌, ◌%◌, ◌^◌, ◌<◌, ◌≤◌, true, false, List, length, get_or, replicate, sym, refl, ap, ◌∙◌, subst, ⊎_elim, mul_assoc, mul_comm, add-mul, add-one, arith}
 use Rattle.std.specs.List.{AllByRecursion}
 use Rattle.std.proofs.lemmas.Nat.{pow-add, pow_pos, mul-le, div-add-mod', mod_below, div_below, le-div}
 use Rattle.std.proofs.ByRecursion.{All-append, All-weaker}
-use Rattle.std.proofs.lemmas.List.{get_or-set_same, get_or-set_other}
+use Rattle.std.proofs.lemmas.List.{get_or-take, get_or-drop, get_or-replicate, length-replicate}
+use Rattle.std.proofs.lemmas.List.Edits.{get_or-between}
+use Rattle.std.proofs.lemmas.Slice.{take-put_mid_below, between-put_mid, drop-put_mid}
+use borrow.Rule.Slice.PartMut.{put_mid}
 use Rattle.std.proofs.lemmas.Bool.{cases_eq, cases_lt, cases_Bool, cond-true, cond-false, and_from, and_left, and_right, le-leb, lt-leb, lt-ltb, le-ltb}
-use Rattle.std.proofs.lemmas.Bool.Decides.{nat_tests}
 use Rattle.kinds.specs.Kinds.{Kind}
 use Rattle.buckets.specs.declared.prefix.Prefix.{Prefix}
 use Rattle.buckets.specs.Blocks.{bucket_bytes}
@@ -15,17 +17,32 @@ use Rattle.shape.specs.Keyed.{by_key}
 use Rattle.shape.proofs.Leaves.{leaf, leaves_zero, leaves_light, leaves_heavy, place_is}
 use Rattle.index.specs.Stored.{prefix_at}
 use Rattle.layout.specs.Laid.{leaf_block}
-use Rattle.layout.proofs.Splits.{top_small}
+use Rattle.layout.proofs.Splits.{top_is, top_small}
 use Rattle.changes.specs.Relaying.{filled_at, first_in, room_in, is_run, Named, Unnamed}
 
-pub fill_more : (xs ys : List ℕ) (from i v : ℕ) → from ≤ i → i < length xs → ((k : ℕ) → get_or xs k 0 ≡ filled_at from i v ys k) → (k : ℕ) → get_or (set xs i v) k 0 ≡ filled_at from (i + 1) v ys k
-fill_more xs ys from i v l b h k = ⊎_elim
-    (λ (e : k ≡ i). ap (λ n. get_or (set xs i v) n 0) e ∙ get_or-set_same xs i v 0 b ∙ sym (cond-true _ _ _ (and_from (leb from k) (ltb k (i + 1)) (le-leb _ _ (omega arith)) (lt-ltb _ _ (omega arith)))))
-    (λ (ne : k ≡ i → ⊥). get_or-set_other xs i k v 0 ne ∙ h k ∙ ap (λ t. cond (leb from k && t) v (get_or ys k 0)) (near ne))
-    (cases_eq k i)
+-- a list whose elements from one place up to another were filled
+pub filled : (xs ys : List ℕ) (from to v n : ℕ) → from ≤ to → to ≤ length xs → n ≡ to - from → ys ≡ replicate n v → (s : ℕ) → get_or (put_mid from (to - from) xs ys) s 0 ≡ filled_at from to v xs s
+filled xs ys from to v n a b z e s = ⊎_elim
+    (λ (l : s < from).
+    sym (get_or-take from P s 0 l) ∙ ap (λ zs. get_or zs s 0) (take-put_mid_below from (to - from) xs ys from (omega arith) (omega arith)) ∙ get_or-take from xs s 0 l
+    ∙ sym (cond-false _ _ _ (and_left _ _ (lt-leb _ _ l))))
+    (λ (l : from ≤ s). ⊎_elim
+    (λ (m : s < to).
+    let at : from + (s - from) ≡ s = omega arith in
+    ap (λ i. get_or P i 0) (sym at) ∙ sym (get_or-between P from to (s - from) 0 (omega arith)) ∙ ap (λ zs. get_or zs (s - from) 0) (between-put_mid from (to - from) xs ys to (omega arith) long ∙ e)
+    ∙ get_or-replicate n (s - from) v 0 (omega arith) ∙ sym (cond-true _ _ _ (and_from _ _ (le-leb _ _ l) (lt-ltb _ _ m))))
+    (λ (m : to ≤ s).
+    let at : to + (s - to) ≡ s = omega arith in
+    ap (λ i. get_or P i 0) (sym at) ∙ sym (get_or-drop to P (s - to) 0) ∙ ap (λ zs. get_or zs (s - to) 0) (drop-put_mid from (to - from) xs ys to (omega arith) (omega arith) long) ∙ get_or-drop to xs (s - to) 0
+    ∙ ap (λ i. get_or xs i 0) at ∙ sym (cond-false _ _ _ (and_right _ _ (le-ltb _ _ m))))
+    (cases_lt s to))
+    (cases_lt s from)
   where
-    near : (k ≡ i → ⊥) → ltb k i ≡ ltb k (i + 1)
-    near ne = grind (arith, nat_tests)
+    P : List ℕ
+    P = put_mid from (to - from) xs ys
+
+    long : length ys ≡ to - from
+    long = ap length e ∙ length-replicate n v ∙ z
 
 -- a bucket's slots are those from its first one on
 module _ (k p : ℕ) where
@@ -91,11 +108,7 @@ module _ (kind : Kind) (new : List (List ℕ)) (x : Leaf) (deep : x.room ≤ 7) 
   leaf_room = omega (arith, bits_of (prefix_at x.room x.prefix) (under (by_key kind) x.room x.prefix new))
 
   pub leaf_first : first_in (leaf_block kind new x) ≡ first_slot x
-  leaf_first =
-      let k = x.room in
-      let p = x.prefix in
-      let e : p * 2 ^ (25 + k) ≡ 33554432 * (p * 2 ^ k) = ap (λ n. p * n) (pow-add 2 25 k) ∙ sym (mul_assoc p (2 ^ 25) (2 ^ k)) ∙ ap (λ n. n * 2 ^ k) (mul_comm p (2 ^ 25)) ∙ mul_assoc (2 ^ 25) p (2 ^ k) in
-      omega (arith, top_of (prefix_at k p) (under (by_key kind) k p new), e, top_small k p small)
+  leaf_first = omega (arith, top_of (prefix_at x.room x.prefix) (under (by_key kind) x.room x.prefix new), top_is x.room x.prefix, top_small x.room x.prefix small)
 
   pub leaf-run : is_run (leaf_block kind new x) ≡ true
   leaf-run =

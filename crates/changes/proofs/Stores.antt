@@ -1,10 +1,11 @@
 -- A plan that was written: the blocks store the new records.
-use Rattle.std.proofs.Common.{◌≡◌, ℕ, zero, suc, ◌+◌, ◌-◌, ◌*◌, ◌/◌, ◌^◌, ◌<◌, ◌≤◌, cond, eqb, List, [], ◌∷◌, ◌++◌, map, length, get_or, take, set, sym, refl, ap, ◌∙◌, subst, ⊎_elim, add-mul, arith, length-set}
+use Rattle.std.proofs.Common.{◌≡◌, ℕ, zero, suc, ◌+◌, ◌-◌, ◌*◌, ◌/◌, ◌^◌, ◌<◌, ◌≤◌, cond, eqb, List, [], ◌∷◌, ◌++◌, map, length, get_or, take, drop, set, sym, refl, ap, ◌∙◌, subst, ⊎_elim, add-mul, arith, length-set}
 use Rattle.std.specs.List.{AllByRecursion}
 use Rattle.std.proofs.lemmas.Nat.{pow_pos}
 use Rattle.std.proofs.ByRecursion.{All-get_or}
-use Rattle.std.proofs.lemmas.List.{get_or-set_same, get_or-set_other, get_or-map, length-map, length-take, get_or-take, map-append, ext_get_or}
+use Rattle.std.proofs.lemmas.List.{get_or-set_same, get_or-set_other, get_or-map, length-map, length-take, get_or-take, map-append, take-append-drop, ext_get_or}
 use Rattle.std.proofs.lemmas.Bool.{cases_eq, eq-eqb}
+use Rattle.arrayvec.specs.ArrayVec.{array_vec_len}
 use Rattle.kinds.specs.Kinds.{Kind}
 use Rattle.header.specs.Headers.{RunAt, Encodes, deepest}
 use Rattle.shape.specs.Buckets.{Leaf, leaves, first_slot}
@@ -12,14 +13,24 @@ use Rattle.shape.specs.Keyed.{by_key}
 use Rattle.shape.proofs.Leaves.{leaf, place_of, first_within, around}
 use Rattle.index.specs.Stored.{Blocks, block, slots, rooms, room_at, bucket_for, Stored, pointers, home, times}
 use Rattle.index.proofs.Reading.{slot_small}
-use Rattle.layout.specs.Laid.{blocks_of, leaf_block}
+use Rattle.layout.specs.Laid.{leaf_block}
 use Rattle.plans.specs.declared.plan.Plan.{Plan}
-use Rattle.plans.specs.Planned.{Planned, Spare, Changed, numbers_of}
+use Rattle.plans.specs.Planned.{Planned, Spare, Changed}
 use Rattle.plans.proofs.Merges.{times-append}
 use Rattle.changes.specs.Making.{Headed, written}
 use Rattle.changes.proofs.Relays.{leaves_within}
 use Rattle.changes.proofs.Writes.{length-written, written_at, written_off}
-use Rattle.changes.proofs.Naming.{times_at, pointer_home, lays, apart, bucket_same, pointer-on, elsewhere, place-small, leaf-of, runs-new}
+use Rattle.changes.proofs.Naming.{times_at, pointer_home, long_new, some_laid, apart, bucket_same, pointer-on, elsewhere, place-small, leaf-of, runs-new}
+
+-- the first ones of spare blocks are spare
+pub spare_taken : (kind : Kind) (blocks : Blocks) (head : ℕ) (old : List (List ℕ)) (spare : List ℕ) (n : ℕ) → Spare kind blocks head old spare → Spare kind blocks head old (take n spare)
+spare_taken kind blocks head old spare n sp = record {
+  apart = λ b. omega (arith, sp.apart b, ap (times b) (take-append-drop n spare), times-append b (take n spare) (drop n spare));
+  there = λ i l.
+      let short = length-take n spare in
+      let same : get_or (take n spare) i 0 ≡ get_or spare i 0 = get_or-take n spare i 0 (omega arith) in
+      omega (arith, same, sp.there i (omega arith));
+}
 
 -- blocks after a header and some buckets were written
 pub record Wrote (before after : Blocks) (head : ℕ) (header ns : List ℕ) (bs : List (List ℕ)) : Type 0 where
@@ -38,15 +49,12 @@ all_right P (x ∷ xs) ys h = all_right P xs ys h.1
 
 module _ (kind : Kind) (before : Blocks) (head : ℕ) (old new : List (List ℕ)) (plan : Plan) (spare : List ℕ)
     (st : Stored kind before head old) (pl : Planned kind (block before head) old new plan) (sp : Spare kind before head old spare)
-    (enough : plan.laid.len ≤ 1 + length spare) where
-  pub long_laid : length (blocks_of plan.laid) ≡ plan.laid.len
-  long_laid = ap length pl.laid.blocks ∙ length-map (leaves (by_key kind) plan.room (plan.slot / 2 ^ plan.room) new) (leaf_block kind new) ∙ sym (lays kind before head old new plan spare st pl sp enough).long
-
-  pub there : (i : ℕ) → i < plan.laid.len → get_or (plan.number ∷ spare) i 0 < length before
+    (enough : array_vec_len plan.laid ≤ 1 + length spare) where
+  pub there : (i : ℕ) → i < array_vec_len plan.laid → get_or (plan.number ∷ spare) i 0 < length before
   there zero l = subst (λ n. n < length before) (sym pl.number) (st.within plan.slot pl.slot)
   there (suc i) l = sp.there i (omega (arith, enough))
 
-  pub not_head : (i : ℕ) → i < plan.laid.len → get_or (plan.number ∷ spare) i 0 ≡ head → ⊥
+  pub not_head : (i : ℕ) → i < array_vec_len plan.laid → get_or (plan.number ∷ spare) i 0 ≡ head → ⊥
   not_head zero l e = st.beside plan.slot pl.slot (sym pl.number ∙ e)
   not_head (suc i) l e =
       let m = times_at spare i (omega (arith, enough)) in
@@ -55,23 +63,23 @@ module _ (kind : Kind) (before : Blocks) (head : ℕ) (old new : List (List ℕ)
 
   -- the blocks after buckets and header were written
   module _ (header : List ℕ) (hd : Headed kind (block before head) old new plan spare header) where
-    distinct : (i j : ℕ) → i < j → j < length (blocks_of plan.laid) → get_or (plan.number ∷ spare) i 0 ≡ get_or (plan.number ∷ spare) j 0 → ⊥
-    distinct i j l b e = apart kind before head old new plan spare st pl sp enough (slots header) (rooms kind new) hd.relaid i j l (omega (arith, b, long_laid)) e
+    distinct : (i j : ℕ) → i < j → j < length plan.laid.items → get_or (plan.number ∷ spare) i 0 ≡ get_or (plan.number ∷ spare) j 0 → ⊥
+    distinct i j l b e = apart kind before head old new plan spare st pl sp enough (slots header) (rooms kind new) hd.relaid i j l (omega (arith, b)) e
 
-    all_there : (i : ℕ) → i < length (blocks_of plan.laid) → get_or (plan.number ∷ spare) i 0 < length before
-    all_there i l = there i (omega (arith, l, long_laid))
+    all_there : (i : ℕ) → i < length plan.laid.items → get_or (plan.number ∷ spare) i 0 < length before
+    all_there i l = there i (omega arith)
 
-    none-head : (i : ℕ) → i < length (blocks_of plan.laid) → get_or (plan.number ∷ spare) i 0 ≡ head → ⊥
-    none-head i l e = not_head i (omega (arith, l, long_laid)) e
+    none-head : (i : ℕ) → i < length plan.laid.items → get_or (plan.number ∷ spare) i 0 ≡ head → ⊥
+    none-head i l e = not_head i (omega arith) e
 
-    ns-long : length (blocks_of plan.laid) ≤ length (plan.number ∷ spare)
-    ns-long = omega (arith, long_laid, enough)
+    ns-long : length plan.laid.items ≤ length (plan.number ∷ spare)
+    ns-long = omega (arith, enough)
 
     -- the header block is another
-    pub wrote-both : (after : Blocks) → after ≡ set (written before (plan.number ∷ spare) (blocks_of plan.laid)) head header → Wrote before after head header (plan.number ∷ spare) (blocks_of plan.laid)
+    pub wrote-both : (after : Blocks) → after ≡ set (written before (plan.number ∷ spare) plan.laid.items) head header → Wrote before after head header (plan.number ∷ spare) plan.laid.items
     wrote-both after e =
         let ns = plan.number ∷ spare in
-        let bs = blocks_of plan.laid in
+        let bs = plan.laid.items in
         let mid = written before ns bs in
         let long = length-written before ns bs in
         record {
@@ -82,10 +90,10 @@ module _ (kind : Kind) (before : Blocks) (head : ℕ) (old new : List (List ℕ)
         }
 
     -- the header block is the same
-    pub wrote-buckets : (after : Blocks) → after ≡ written before (plan.number ∷ spare) (blocks_of plan.laid) → header ≡ block before head → Wrote before after head header (plan.number ∷ spare) (blocks_of plan.laid)
+    pub wrote-buckets : (after : Blocks) → after ≡ written before (plan.number ∷ spare) plan.laid.items → header ≡ block before head → Wrote before after head header (plan.number ∷ spare) plan.laid.items
     wrote-buckets after e same =
         let ns = plan.number ∷ spare in
-        let bs = blocks_of plan.laid in
+        let bs = plan.laid.items in
         record {
           long = ap length e ∙ length-written before ns bs;
           top = ap (λ d. block d head) e ∙ written_off before ns bs head (λ i l z. none-head i l (sym z)) ∙ sym same;
@@ -95,8 +103,8 @@ module _ (kind : Kind) (before : Blocks) (head : ℕ) (old new : List (List ℕ)
 
 module _ (kind : Kind) (before after : Blocks) (head : ℕ) (old new : List (List ℕ)) (plan : Plan) (spare header : List ℕ)
     (st : Stored kind before head old) (pl : Planned kind (block before head) old new plan) (sp : Spare kind before head old spare)
-    (enough : plan.laid.len ≤ 1 + length spare) (hd : Headed kind (block before head) old new plan spare header)
-    (w : Wrote before after head header (plan.number ∷ spare) (blocks_of plan.laid)) where
+    (enough : array_vec_len plan.laid ≤ 1 + length spare) (hd : Headed kind (block before head) old new plan spare header)
+    (w : Wrote before after head header (plan.number ∷ spare) plan.laid.items) where
   abbrev K : ℕ
   K = plan.room
 
@@ -115,7 +123,7 @@ module _ (kind : Kind) (before after : Blocks) (head : ℕ) (old new : List (Lis
   on : (s : ℕ) → s < 128 → s / 2 ^ K ≡ p → get_or S' s 0 ≡ get_or ns (place_of (by_key kind) K p new s) 0
   on = pointer-on kind before head old new plan spare st pl sp enough S' (rooms kind new) hd.relaid
 
-  small : (s : ℕ) → s / 2 ^ K ≡ p → place_of (by_key kind) K p new s < plan.laid.len
+  small : (s : ℕ) → s / 2 ^ K ≡ p → place_of (by_key kind) K p new s < array_vec_len plan.laid
   small = place-small kind before head old new plan spare st pl sp enough S' (rooms kind new) hd.relaid
 
   off : (s : ℕ) → s < 128 → (s / 2 ^ K ≡ p → ⊥) → get_or S' s 0 ≡ get_or (slots (block before head)) s 0
@@ -131,14 +139,14 @@ module _ (kind : Kind) (before after : Blocks) (head : ℕ) (old new : List (Lis
   leads s l = ⊎_elim
       (λ (e : s / 2 ^ K ≡ p).
       let i = place_of (by_key kind) K p new s in
-      let li : i < length (blocks_of plan.laid) = omega (arith, small s e, (long_laid kind before head old new plan spare st pl sp enough)) in
-      let m : i < length L = omega (arith, small s e, (lays kind before head old new plan spare st pl sp enough).long) in
+      let li : i < length plan.laid.items = omega (arith, small s e) in
+      let m : i < length L = omega (arith, small s e, (long_new kind before head old new plan spare st pl sp enough)) in
       ap (block after) (on s l e) ∙ w.at i li ∙ ap (λ bs. get_or bs i []) pl.laid.blocks ∙ get_or-map (leaf_block kind new) L i (leaf 0 0) [] m
       ∙ ap (leaf_block kind new) (leaf-of kind before head old new plan spare st pl sp enough S' (rooms kind new) hd.relaid s e))
       (λ (ne : s / 2 ^ K ≡ p → ⊥).
       ap (block after) (off s l ne)
       ∙ w.off (get_or (slots (block before head)) s 0) (st.beside s l)
-      (λ i li z. elsewhere kind before head old new plan spare st pl sp enough S' (rooms kind new) hd.relaid i s (omega (arith, li, (long_laid kind before head old new plan spare st pl sp enough))) l ne (sym z))
+      (λ i li z. elsewhere kind before head old new plan spare st pl sp enough S' (rooms kind new) hd.relaid i s (omega (arith, li)) l ne (sym z))
       ∙ st.leads s l ∙ bucket_same kind before head old new plan spare st pl sp enough s ne)
       (cases_eq (s / 2 ^ K) p)
 
@@ -176,17 +184,17 @@ module _ (kind : Kind) (before after : Blocks) (head : ℕ) (old new : List (Lis
   same_pointers [] a b = refl
   same_pointers (x ∷ xs) a b = ap (λ n. n ∷ pointers header xs) (off (first_slot x) (first_small x a.0) b.0) ∙ ap (λ ys. get_or (slots (block before head)) (first_slot x) 0 ∷ ys) (same_pointers xs a.1 b.1)
 
-  new_pointers : AllByRecursion Small L → pointers header L ≡ take plan.laid.len ns
+  new_pointers : AllByRecursion Small L → pointers header L ≡ take (array_vec_len plan.laid) ns
   new_pointers sm =
-      let ll = (lays kind before head old new plan spare st pl sp enough).long in
+      let ll = long_new kind before head old new plan spare st pl sp enough in
       let f = λ (x : Leaf). get_or (slots header) (first_slot x) 0 in
-      let long : length (pointers header L) ≡ length (take plan.laid.len ns) = length-map L f ∙ sym ll ∙ omega (arith, length-take plan.laid.len ns, enough) in
-      ext_get_or 0 (pointers header L) (take plan.laid.len ns) long
+      let long : length (pointers header L) ≡ length (take (array_vec_len plan.laid) ns) = length-map L f ∙ sym ll ∙ omega (arith, length-take (array_vec_len plan.laid) ns, enough) in
+      ext_get_or 0 (pointers header L) (take (array_vec_len plan.laid) ns) long
       (λ i l.
       let m : i < length L = omega (arith, l, length-map L f) in
       let x = get_or L i (leaf 0 0) in
       let sx = first_small x (All-get_or Small L i (leaf 0 0) m sm) in
-      get_or-map f L i (leaf 0 0) 0 m ∙ (hd.relaid.on i (first_slot x) m m sx (first_within x.room x.prefix)).0 ∙ sym (get_or-take plan.laid.len ns i 0 (omega (arith, m, ll))))
+      get_or-map f L i (leaf 0 0) 0 m ∙ (hd.relaid.on i (first_slot x) m m sx (first_within x.room x.prefix)).0 ∙ sym (get_or-take (array_vec_len plan.laid) ns i 0 (omega (arith, m, ll))))
 
   count_parts : (x : ℕ) (h : List ℕ) (A M B : List Leaf) → times x (pointers h (A ++ (M ++ B))) ≡ times x (pointers h A) + (times x (pointers h M) + times x (pointers h B))
   count_parts x h A M B =
@@ -197,10 +205,7 @@ module _ (kind : Kind) (before after : Blocks) (head : ℕ) (old new : List (Lis
   times_first x zero l = absurd (omega arith)
   times_first x (suc n) l = let e : suc n - 1 ≡ n = omega arith in ap (λ m. cond (eqb x plan.number) 1 0 + times x (take m spare)) (sym e)
 
-  pub some_laid : 1 ≤ plan.laid.len
-  some_laid = omega (arith, small plan.slot refl)
-
-  pub passed : (b : ℕ) → times b (home kind after head new) + times b (numbers_of plan.given) ≡ times b (home kind before head old) + times b (take (plan.laid.len - 1) spare)
+  pub passed : (b : ℕ) → times b (home kind after head new) + times b plan.given.items ≡ times b (home kind before head old) + times b (take (array_vec_len plan.laid - 1) spare)
   passed b =
       let ar = around (by_key kind) plan.slot old new pl.differ K 7 pl.deep pl.heavy in
       let z = slot_small plan.slot pl.slot in
@@ -221,26 +226,26 @@ module _ (kind : Kind) (before after : Blocks) (head : ℕ) (old new : List (Lis
         ap (times b) (same_pointers ar.left sl ar.left-off),
         ap (times b) (same_pointers ar.right sr ar.right-off),
         ap (times b) (new_pointers sm),
-        times_first b plan.laid.len some_laid,
+        times_first b (array_vec_len plan.laid) (some_laid kind before head old new plan spare st pl sp enough),
         pl.given b,
       )
 
-  pub changed : Changed kind before after head old new (take (plan.laid.len - 1) spare) (numbers_of plan.given)
+  pub changed : Changed kind before after head old new (take (array_vec_len plan.laid - 1) spare) plan.given.items
   changed = record {
     stored = stored_new;
     passed = passed;
-    kept = λ b none. w.off b (λ e. head-not b none e) (λ i l e. taken_not b none i (omega (arith, l, (long_laid kind before head old new plan spare st pl sp enough))) e);
+    kept = λ b none. w.off b (λ e. head-not b none e) (λ i l e. taken_not b none i (omega arith) e);
     count = w.long;
   }
     where
-      head-not : (b : ℕ) → times b (home kind before head old) + times b (take (plan.laid.len - 1) spare) ≡ 0 → b ≡ head → ⊥
+      head-not : (b : ℕ) → times b (home kind before head old) + times b (take (array_vec_len plan.laid - 1) spare) ≡ 0 → b ≡ head → ⊥
       head-not b none e = let h = eq-eqb b head e in omega (arith, none, ap (λ t. cond {A = ℕ} t 1 0) h)
 
-      taken_not : (b : ℕ) → times b (home kind before head old) + times b (take (plan.laid.len - 1) spare) ≡ 0 → (i : ℕ) → i < plan.laid.len → b ≡ get_or ns i 0 → ⊥
+      taken_not : (b : ℕ) → times b (home kind before head old) + times b (take (array_vec_len plan.laid - 1) spare) ≡ 0 → (i : ℕ) → i < array_vec_len plan.laid → b ≡ get_or ns i 0 → ⊥
       taken_not b none zero l e =
           let n = pointer_home kind before head old st plan.slot pl.slot in
           omega (arith, none, subst (λ x. 1 ≤ times x (home kind before head old)) (sym (e ∙ pl.number)) n)
       taken_not b none (suc i) l e =
-          let m = times_at (take (plan.laid.len - 1) spare) i (omega (arith, length-take (plan.laid.len - 1) spare, enough, l)) in
-          let same : get_or (take (plan.laid.len - 1) spare) i 0 ≡ b = get_or-take (plan.laid.len - 1) spare i 0 (omega (arith, l)) ∙ sym e in
-          omega (arith, none, subst (λ x. 1 ≤ times x (take (plan.laid.len - 1) spare)) same m)
+          let m = times_at (take (array_vec_len plan.laid - 1) spare) i (omega (arith, length-take (array_vec_len plan.laid - 1) spare, enough, l)) in
+          let same : get_or (take (array_vec_len plan.laid - 1) spare) i 0 ≡ b = get_or-take (array_vec_len plan.laid - 1) spare i 0 (omega arith) ∙ sym e in
+          omega (arith, none, subst (λ x. 1 ≤ times x (take (array_vec_len plan.laid - 1) spare)) same m)

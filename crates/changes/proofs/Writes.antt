@@ -1,6 +1,7 @@
 -- Blocks after several are written.
-use Rattle.std.proofs.Common.{◌≡◌, ℕ, zero, suc, ◌+◌, ◌<◌, ◌≤◌, List, [], ◌∷◌, length, get_or, drop, set, refl, ap, ◌∙◌, arith, length-set}
+use Rattle.std.proofs.Common.{◌≡◌, ℕ, zero, suc, ◌+◌, ◌<◌, ◌≤◌, List, [], ◌∷◌, length, get_or, drop, min, set, refl, ap, ◌∙◌, ⊎_elim, arith, length-set}
 use Rattle.std.proofs.lemmas.List.{get_or-set_same, get_or-set_other, drop_more, drop_all}
+use Rattle.std.proofs.lemmas.Bool.{cases_lt}
 use Rattle.index.specs.Stored.{Blocks, block}
 use Rattle.changes.specs.Making.{written}
 
@@ -25,5 +26,12 @@ written_at d (n ∷ ns) (x ∷ xs) e apart low (suc i) l =
 pub written_more : (d : Blocks) (ns : List ℕ) (xs : List (List ℕ)) (i : ℕ) → i < length ns → i < length xs → written d (drop i ns) (drop i xs) ≡ written (set d (get_or ns i 0) (get_or xs i [])) (drop (i + 1) ns) (drop (i + 1) xs)
 written_more d ns xs i a b = ap (λ ys. written d ys (drop i xs)) (drop_more ns i 0 a) ∙ ap (written d (get_or ns i 0 ∷ drop (i + 1) ns)) (drop_more xs i [] b)
 
-pub written_all : (d : Blocks) (ns : List ℕ) (xs : List (List ℕ)) (i : ℕ) → length xs ≤ i → written d (drop i ns) (drop i xs) ≡ d
-written_all d ns xs i l = ap (written d (drop i ns)) (drop_all i xs l)
+pub written_all : (d : Blocks) (ns : List ℕ) (xs : List (List ℕ)) (i : ℕ) → i ≡ min (length ns) (length xs) → written d (drop i ns) (drop i xs) ≡ d
+written_all d ns xs i e = ⊎_elim
+    (λ (l : length ns < length xs). ap (λ ys. written d ys (drop i xs)) (drop_all i ns (omega arith)) ∙ none (drop i xs))
+    (λ (l : length xs ≤ length ns). ap (written d (drop i ns)) (drop_all i xs (omega arith)))
+    (cases_lt (length ns) (length xs))
+  where
+    none : (ys : List (List ℕ)) → written d [] ys ≡ d
+    none [] = refl
+    none (y ∷ ys) = refl

@@ -1,12 +1,13 @@
 -- What it takes to make a planned change, and what it comes to.
 use Rattle.std.specs.Prelude.{◌≡◌, ℕ, ◌+◌, ◌-◌, ◌/◌, ◌^◌, ◌<◌, ◌≤◌, true, false, List, [], ◌∷◌, length, take, is_ok, Err, Decides, Result, slice_index, slice_set}
+use Rattle.arrayvec.specs.ArrayVec.{array_vec_len}
 use Rattle.kinds.specs.Kinds.{Kind}
 use Rattle.header.specs.Headers.{Encodes, deepest}
 use Rattle.index.specs.declared.fault.Fault.{Fault}
 use Rattle.index.specs.declared.fault.Fault.TheVariants.{NoRoom}
 use Rattle.index.specs.Stored.{Blocks, slots, rooms}
 use Rattle.plans.specs.declared.plan.Plan.{Plan}
-use Rattle.plans.specs.Planned.{Changed, numbers_of}
+use Rattle.plans.specs.Planned.{Changed}
 use Rattle.changes.specs.Relaying.{Relaid}
 
 -- blocks after each of some is written to its number
@@ -15,12 +16,11 @@ written blocks ns [] = blocks
 written blocks [] (x ∷ xs) = blocks
 written blocks (n ∷ ns) (x ∷ xs) = written (slice_set blocks n x) ns xs
 
--- a device has all the blocks that a plan writes, and allows as many writes and one for the header
-pub record Ready (blocks : Blocks) (allowed head : ℕ) (plan : Plan) (spare : List ℕ) : Type 0 where
-  pub enough : plan.laid.len ≤ 1 + length spare
-  pub writes : plan.laid.len + 1 ≤ allowed
+-- a device has a header block and others, and allows as many writes
+pub record Ready (blocks : Blocks) (allowed head : ℕ) (numbers : List ℕ) : Type 0 where
+  pub writes : length numbers + 1 ≤ allowed
   pub header : head < length blocks
-  pub there : (i : ℕ) → i < plan.laid.len → slice_index (plan.number ∷ spare) i < length blocks
+  pub there : (i : ℕ) → i < length numbers → slice_index numbers i < length blocks
 
 -- the header block after a plan: all slots under its prefix name its buckets
 pub record Headed (kind : Kind) (header : List ℕ) (old new : List (List ℕ)) (plan : Plan) (spare after : List ℕ) : Type 0 where
@@ -29,10 +29,10 @@ pub record Headed (kind : Kind) (header : List ℕ) (old new : List (List ℕ)) 
 
 -- there are spare blocks enough, and writes
 abbrev pub Affords : ℕ → Plan → List ℕ → Type 0
-Affords allowed plan spare = (plan.laid.len ≤ 1 + length spare) × (plan.laid.len + 1 ≤ allowed)
+Affords allowed plan spare = (array_vec_len plan.laid ≤ 1 + length spare) × (array_vec_len plan.laid + 1 ≤ allowed)
 
 -- a planned change is made exactly where spare blocks and allowance do for it
 pub record Makes (kind : Kind) (before after : Blocks) (allowed head : ℕ) (old new : List (List ℕ)) (plan : Plan) (spare : List ℕ) (done : Result (Unit {0}) Fault) : Type 0 where
   pub served : Decides (is_ok done) (Affords allowed plan spare)
   pub scarce : is_ok done ≡ false → done ≡ Err NoRoom
-  pub changed : is_ok done ≡ true → Changed kind before after head old new (take (plan.laid.len - 1) spare) (numbers_of plan.given)
+  pub changed : is_ok done ≡ true → Changed kind before after head old new (take (array_vec_len plan.laid - 1) spare) plan.given.items

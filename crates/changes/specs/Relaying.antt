@@ -3,8 +3,7 @@ use Rattle.std.specs.Prelude.{◌≡◌, ℕ, ◌+◌, ◌-◌, ◌*◌, ◌/◌
 use Rattle.kinds.specs.Kinds.{Kind}
 use Rattle.shape.specs.Buckets.{Leaf, leaves}
 use Rattle.shape.specs.Keyed.{by_key}
-use Rattle.layout.specs.Laid.{blocks_of, leaf_block}
-use Rattle.plans.specs.declared.plan.Plan.{Plan}
+use Rattle.layout.specs.Laid.{leaf_block}
 
 -- element s of a list whose elements from one place up to another became v
 abbrev pub filled_at : ℕ → ℕ → ℕ → List ℕ → ℕ → ℕ
@@ -38,10 +37,9 @@ pub record Relaid (kind : Kind) (records : List (List ℕ)) (k p : ℕ) (numbers
   pub on : Named (leaves (by_key kind) k p records) (length (leaves (by_key kind) k p records)) numbers slots' rooms'
   pub off : (s : ℕ) → s < 128 → (s / 2 ^ k ≢ p) → (slice_index slots' s ≡ slice_index slots s) × (slice_index rooms' s ≡ slice_index rooms s)
 
--- a plan has the buckets under a prefix, and there are spare blocks for them
-pub record Lays (kind : Kind) (records : List (List ℕ)) (k p : ℕ) (plan : Plan) (spare : List ℕ) : Type 0 where
+-- blocks are the buckets under a prefix, and there are numbers enough for them
+pub record Lays (kind : Kind) (records : List (List ℕ)) (k p : ℕ) (numbers : List ℕ) (blocks : List (List ℕ)) : Type 0 where
   pub deep : k ≤ 7
   pub small : (p + 1) * 2 ^ k ≤ 128
-  pub laid : blocks_of plan.laid ≡ map (leaf_block kind records) (leaves (by_key kind) k p records)
-  pub long : plan.laid.len ≡ length (leaves (by_key kind) k p records)
-  pub enough : plan.laid.len ≤ 1 + length spare
+  pub laid : blocks ≡ map (leaf_block kind records) (leaves (by_key kind) k p records)
+  pub enough : length blocks ≤ length numbers

@@ -1,16 +1,32 @@
 ghost use Rattle.std.specs.Prelude.{◌≡◌, ℕ, ◌+◌, ◌≤◌, true, false, List, is_ok, Err};
 ghost use Rattle.index.specs.declared.fault.Fault.TheVariants.{BadRecord};
-ghost use Rattle.index.specs.Stored.{Stored};
-ghost use Rattle.plans.specs.Planned.{Spare};
+ghost use Rattle.kinds.specs.Kinds.{Kind};
+ghost use Rattle.index.specs.Stored.{Stored, block};
+ghost use Rattle.plans.specs.Planned.{Planned, Spare};
 ghost use Rattle.plans.specs.Editing.{is_lawful};
-ghost use Rattle.changes.specs.Changing.{PutEnds, RemovalEnds};
+ghost use Rattle.changes.specs.Changing.{ChangeEnds, PutEnds, RemovalEnds};
 
 use crate::change::Change;
 use crate::making::make;
 use device::Device;
 use index::Fault;
 use kinds::KeyKind;
-use plans::{plan_put, plan_remove};
+use plans::{Plan, plan_put, plan_remove};
+
+// Makes a planned change, and says what it did with blocks.
+fn apply<D: Device>(device: &mut D, head: u16, plan: Plan, spare: &[u16]) -> Result<Change, Fault>
+    ensures ends { (kind : Kind) (old new : List (List ℕ)) → Stored kind (D.Device.contents device.old) head old → Planned kind (block (D.Device.contents device.old) head) old new plan → Spare kind (D.Device.contents device.old) head old spare.now → ChangeEnds kind (D.Device.contents device.old) (D.Device.contents device.new) (D.Device.allowed device.old) head old new spare.now result }
+    ensures refused { is_ok result ≡ false → (D.Device.contents device.new ≡ D.Device.contents device.old) × (D.Device.allowed device.new ≡ D.Device.allowed device.old) }
+    ensures keeps { D.Device.kept device.old device.new }
+    ensures costs { D.Device.allowed device.old ≤ D.Device.allowed device.new + 9 }
+    ensures falls { D.Device.allowed device.new ≤ D.Device.allowed device.old }
+{
+    make(device, head, &plan, spare)?;
+    Ok(Change {
+        taken: plan.taken(),
+        given: plan.given,
+    })
+}
 
 // Puts a record into an index, in the place of one with an alike key. A refusal changes nothing.
 pub fn put<D: Device, K: KeyKind>(
@@ -27,11 +43,7 @@ pub fn put<D: Device, K: KeyKind>(
     ensures falls { D.Device.allowed device.new ≤ D.Device.allowed device.old }
 {
     let plan = plan_put::<D, K>(device, head, bytes)?;
-    make(device, head, &plan, spare)?;
-    Ok(Change {
-        taken: plan.taken(),
-        given: plan.given,
-    })
+    apply(device, head, plan, spare)
 }
 
 // Removes the record with an alike key from an index, where there is one. A refusal changes nothing.
@@ -51,9 +63,6 @@ pub fn remove<D: Device, K: KeyKind>(
     let Some(plan) = plan_remove::<D, K>(device, head, key)? else {
         return Ok(None);
     };
-    make(device, head, &plan, spare)?;
-    Ok(Some(Change {
-        taken: plan.taken(),
-        given: plan.given,
-    }))
+    let change = apply(device, head, plan, spare)?;
+    Ok(Some(change))
 }

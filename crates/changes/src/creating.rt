@@ -1,4 +1,4 @@
-ghost use Rattle.std.specs.Prelude.{◌≡◌, ℕ, ◌+◌, ◌≤◌, true, false, [], ◌∷◌, length, is_ok, Decides, MatchOption};
+ghost use Rattle.std.specs.Prelude.{◌≡◌, ℕ, ◌+◌, ◌≤◌, true, false, [], ◌∷◌, length, is_ok, Decides, MatchResult};
 ghost use Rattle.kinds.specs.Kinds.{Kind};
 ghost use Rattle.buckets.specs.Blocks.{bucket_bytes};
 ghost use Rattle.index.specs.Stored.{prefix_at};
@@ -10,10 +10,10 @@ use header::{Header, encode};
 use index::Fault;
 
 // The bucket block of no records.
-fn empty_bucket() -> Option<[u8; 512]>
-    ensures { MatchOption result ⊥ (λ b. b ≡ bucket_bytes (prefix_at 7 0) []) }
+fn empty_bucket() -> Result<[u8; 512], Fault>
+    ensures { MatchResult result (λ b. b ≡ bucket_bytes (prefix_at 7 0) []) (λ _. ⊥) }
 {
-    build(Prefix { bits: 0, top: 0 }, &Whole { block: &[] })
+    build(Prefix { bits: 0, top: 0 }, &Whole { block: &[] }).ok_or(Fault::Broken)
 }
 
 // Makes an index of no records: its header in one block, and its one bucket in another. Where these
@@ -33,9 +33,7 @@ pub fn create<D: Device>(device: &mut D, head: u16, bucket: u16) -> Result<(), F
     if device.allowance() < 2 {
         return Err(Fault::NoRoom);
     }
-    let Some(empty) = empty_bucket() else {
-        return Err(Fault::Broken);
-    };
+    let empty = empty_bucket()?;
     let header = encode(&Header::single(bucket));
     let _ = device.write(u32::from(bucket), &empty);
     let _ = device.write(u32::from(head), &header);

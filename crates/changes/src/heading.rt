@@ -1,11 +1,12 @@
-ghost use Rattle.std.specs.Prelude.{◌≡◌, ℕ, ◌+◌, ◌≤◌, List, length, MatchOption};
+ghost use Rattle.std.specs.Prelude.{◌≡◌, ℕ, ◌+◌, ◌≤◌, List, ◌∷◌, length, MatchOption};
+ghost use Rattle.arrayvec.specs.ArrayVec.{array_vec_len};
 ghost use Rattle.kinds.specs.Kinds.{Kind};
 ghost use Rattle.header.specs.Headers.{Encodes};
 ghost use Rattle.index.specs.Stored.{Blocks, Stored, block};
 ghost use Rattle.plans.specs.Planned.{Planned, Spare};
 ghost use Rattle.changes.specs.Making.{Headed};
 
-use crate::table::relay;
+use crate::table::Table;
 use header::{Header, decode, encode, set_count};
 use plans::Plan;
 
@@ -19,26 +20,26 @@ fn recount(plan: &Plan) -> [u8; 512]
 }
 
 // The header block where a plan changes prefixes.
-fn reshape(plan: &Plan, spare: &[u16]) -> Option<[u8; 512]>
-    ensures { (kind : Kind) (blocks : Blocks) (head : ℕ) (old new : List (List ℕ)) → Stored kind blocks head old → Planned kind (block blocks head) old new plan.now → Spare kind blocks head old spare.now → plan.now.laid.len ≤ 1 + length spare.now → MatchOption result ⊥ (Headed kind (block blocks head) old new plan.now spare.now) }
+fn reshape(plan: &Plan, numbers: &[u16]) -> Option<[u8; 512]>
+    ensures { (kind : Kind) (blocks : Blocks) (head : ℕ) (old new : List (List ℕ)) (spare : List ℕ) → Stored kind blocks head old → Planned kind (block blocks head) old new plan.now → Spare kind blocks head old spare → array_vec_len plan.now.laid ≤ 1 + length spare → numbers.now ≡ plan.now.number ∷ spare → MatchOption result ⊥ (Headed kind (block blocks head) old new plan.now spare) }
 {
     let old = decode(&plan.header)?;
-    let mut slots = *old.slots();
-    let mut rooms = *old.rooms();
-    if !relay(&mut slots, &mut rooms, plan, spare) {
-        return None;
-    }
-    let new = Header::new(plan.count, slots, rooms)?;
+    let mut table = Table {
+        slots: *old.slots(),
+        rooms: *old.rooms(),
+    };
+    table.relay(numbers, plan.laid.as_slice())?;
+    let new = Header::new(plan.count, table.slots, table.rooms)?;
     Some(encode(&new))
 }
 
-// The header block after a plan.
-pub(crate) fn head_after(plan: &Plan, spare: &[u16]) -> Option<[u8; 512]>
-    ensures { (kind : Kind) (blocks : Blocks) (head : ℕ) (old new : List (List ℕ)) → Stored kind blocks head old → Planned kind (block blocks head) old new plan.now → Spare kind blocks head old spare.now → plan.now.laid.len ≤ 1 + length spare.now → MatchOption result ⊥ (Headed kind (block blocks head) old new plan.now spare.now) }
+// The header block after a plan, whose buckets go into blocks of these numbers.
+pub(crate) fn head_after(plan: &Plan, numbers: &[u16]) -> Option<[u8; 512]>
+    ensures { (kind : Kind) (blocks : Blocks) (head : ℕ) (old new : List (List ℕ)) (spare : List ℕ) → Stored kind blocks head old → Planned kind (block blocks head) old new plan.now → Spare kind blocks head old spare → array_vec_len plan.now.laid ≤ 1 + length spare → numbers.now ≡ plan.now.number ∷ spare → MatchOption result ⊥ (Headed kind (block blocks head) old new plan.now spare) }
 {
     if plan.laid.len() == 1 && plan.room == plan.start {
         Some(recount(plan))
     } else {
-        reshape(plan, spare)
+        reshape(plan, numbers)
     }
 }

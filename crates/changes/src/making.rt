@@ -1,65 +1,46 @@
-ghost use Rattle.std.specs.Prelude.{◌≡◌, ℕ, ◌+◌, ◌<◌, ◌≤◌, true, false, List, ◌∷◌, length, is_ok, Decides, slice_index};
+ghost use Rattle.std.specs.Prelude.{◌≡◌, ℕ, ◌+◌, ◌-◌, ◌<◌, ◌≤◌, false, List, ◌∷◌, length, take, is_ok, Decides, MatchOption, slice_index};
+ghost use Rattle.arrayvec.specs.ArrayVec.{array_vec_len};
 ghost use Rattle.kinds.specs.Kinds.{Kind};
 ghost use Rattle.index.specs.Stored.{Stored, block};
-ghost use Rattle.layout.specs.Laid.{blocks_of};
 ghost use Rattle.plans.specs.Planned.{Planned, Spare};
 ghost use Rattle.changes.specs.Making.{written, Ready, Makes};
 
 use crate::heading::head_after;
-use crate::table::number_at;
 use device::Device;
 use index::Fault;
-use plans::Plan;
+use plans::{Numbers, Plan};
 
-// Whether the device has the blocks of a plan's buckets.
-fn are_there(count: u32, plan: &Plan, spare: &[u16]) -> bool
-    ensures { Decides result ((i : ℕ) → i < plan.now.laid.len → (i ≤ length spare.now) × (slice_index (plan.now.number ∷ spare.now) i < count)) }
+// The blocks of a plan's buckets: the one of the old bucket, then spare ones, unless these are too few.
+fn numbers_for(plan: &Plan, spare: &[u16]) -> Option<Numbers>
+    ensures { MatchOption result (length spare.now < array_vec_len plan.now.laid - 1) (λ n. (array_vec_len plan.now.laid - 1 ≤ length spare.now) × (n.items ≡ plan.now.number ∷ take (array_vec_len plan.now.laid - 1) spare.now)) }
 {
-    for i in 0..plan.laid.len() {
-        let Some(number) = number_at(plan, spare, i) else {
-            return false;
-        };
-        if u32::from(number) >= count {
-            return false;
-        }
-    }
-    true
+    let taken = spare.get(..plan.taken())?;
+    let mut numbers = Numbers::new();
+    numbers.push(plan.number);
+    numbers.try_extend_from_slice(taken).ok()?;
+    Some(numbers)
 }
 
-// Whether a plan can be made on a device.
-fn is_ready<D: Device>(device: &D, head: u16, plan: &Plan, spare: &[u16]) -> bool
-    ensures { Decides result (Ready (D.Device.contents device.now) (D.Device.allowed device.now) head plan.now spare.now) }
+// Whether a device has the header block and these, and allows as many writes.
+fn is_ready<D: Device>(device: &D, head: u16, numbers: &[u16]) -> bool
+    ensures { Decides result (Ready (D.Device.contents device.now) (D.Device.allowed device.now) head numbers.now) }
 {
-    let len = plan.laid.len();
-    if len > spare.len() + 1 {
-        return false;
-    }
-    if len + 1 > device.allowance() as usize {
-        return false;
-    }
     let count = device.count();
-    if u32::from(head) >= count {
-        return false;
-    }
-    are_there(count, plan, spare)
+    numbers.len() < device.allowance() as usize
+        && u32::from(head) < count
+        && numbers.iter().all(|number| u32::from(*number) < count)
 }
 
-// Writes a plan's buckets.
-fn write_buckets<D: Device>(device: &mut D, plan: &Plan, spare: &[u16])
-    requires { (plan.now.laid.len ≤ 1 + length spare.now) × ((plan.now.laid.len ≤ D.Device.allowed device.old) × (((i : ℕ) → i < plan.now.laid.len → slice_index (plan.now.number ∷ spare.now) i < length (D.Device.contents device.old)))) }
-    ensures sets { D.Device.contents device.new ≡ written (D.Device.contents device.old) (plan.now.number ∷ spare.now) (blocks_of plan.now.laid) }
+// Writes buckets to blocks.
+fn write_buckets<D: Device>(device: &mut D, numbers: &[u16], blocks: &[[u8; 512]])
+    requires { (length blocks.now ≤ D.Device.allowed device.old) × ((i : ℕ) → i < length numbers.now → slice_index numbers.now i < length (D.Device.contents device.old)) }
+    ensures sets { D.Device.contents device.new ≡ written (D.Device.contents device.old) numbers.now blocks.now }
     ensures keeps { D.Device.kept device.old device.new }
-    ensures costs { D.Device.allowed device.old ≤ D.Device.allowed device.new + plan.now.laid.len }
+    ensures costs { D.Device.allowed device.old ≤ D.Device.allowed device.new + length blocks.now }
     ensures falls { D.Device.allowed device.new ≤ D.Device.allowed device.old }
 {
-    for i in 0..plan.laid.len() {
-        let Some(block) = plan.laid.block(i) else {
-            return;
-        };
-        let Some(number) = number_at(plan, spare, i) else {
-            return;
-        };
-        let _ = device.write(u32::from(number), block);
+    for (number, block) in numbers.iter().zip(blocks) {
+        let _ = device.write(u32::from(*number), block);
     }
 }
 
@@ -69,16 +50,16 @@ pub fn make<D: Device>(device: &mut D, head: u16, plan: &Plan, spare: &[u16]) ->
     ensures makes { (kind : Kind) (old new : List (List ℕ)) → Stored kind (D.Device.contents device.old) head old → Planned kind (block (D.Device.contents device.old) head) old new plan.now → Spare kind (D.Device.contents device.old) head old spare.now → Makes kind (D.Device.contents device.old) (D.Device.contents device.new) (D.Device.allowed device.old) head old new plan.now spare.now result }
     ensures refused { is_ok result ≡ false → (D.Device.contents device.new ≡ D.Device.contents device.old) × (D.Device.allowed device.new ≡ D.Device.allowed device.old) }
     ensures keeps { D.Device.kept device.old device.new }
-    ensures costs { D.Device.allowed device.old ≤ D.Device.allowed device.new + (plan.now.laid.len + 1) }
+    ensures costs { D.Device.allowed device.old ≤ D.Device.allowed device.new + (array_vec_len plan.now.laid + 1) }
     ensures falls { D.Device.allowed device.new ≤ D.Device.allowed device.old }
 {
-    if !is_ready(device, head, plan, spare) {
+    let numbers = numbers_for(plan, spare).ok_or(Fault::NoRoom)?;
+    let numbers = numbers.as_slice();
+    if !is_ready(device, head, numbers) {
         return Err(Fault::NoRoom);
     }
-    let Some(header) = head_after(plan, spare) else {
-        return Err(Fault::Broken);
-    };
-    write_buckets(device, plan, spare);
+    let header = head_after(plan, numbers).ok_or(Fault::Broken)?;
+    write_buckets(device, numbers, plan.laid.as_slice());
     if header != plan.header {
         let _ = device.write(u32::from(head), &header);
     }

@@ -13,7 +13,7 @@ returns g c =
     let bucket = c.args.bucket in
     let mid = c.write.new.self in
     let last = c.write-2.new.self in
-    let empty = c.in-Some.empty in
+    let empty = c.in_ok-empty.empty in
     let header = c.encode-header.result in
     let w : Creatable before (g.D.Device.allowed d) head bucket = record {
       top = omega (arith, c.if-from-count.false, c.from.ensures, c.count-count.ensures);
@@ -40,7 +40,7 @@ returns g c =
     (subst (λ ss. Encodes c.single.result.count (deepest c.single.result.rooms) ss header) made.bucket c.encode-header.ensures)) in
     record {
       served = (λ _. w, λ _. refl);
-      creates = λ _ kind. created before (g.D.Device.contents last) (g.D.Device.allowed d) head bucket empty header w c.in-Some.ensures enc two kind;
+      creates = λ _ kind. created before (g.D.Device.contents last) (g.D.Device.allowed d) head bucket empty header w c.in_ok-empty.ensures enc two kind;
       refused = λ f. absurd (both_ways true f refl);
       keeps = g.D.Device.laws.onward d mid last c.write.ensures.keeps c.write-2.ensures.keeps;
       costs = omega (arith, c.write.ensures.costs, c.write-2.ensures.costs, cost, ap (λ t. cond {A = ℕ} t 1 0) second);
