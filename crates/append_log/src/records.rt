@@ -78,7 +78,7 @@ pub(crate) fn put_record<B: Bytes>(bytes: &mut B, used: u32, block: u16, source:
     ensures keeps { B.kept bytes.old bytes.new }
 {
     let start = start_of(used);
-    bytes.overwrite(start, &block.to_be_bytes());
-    bytes.overwrite(start + 2, source);
-    bytes.overwrite(0, &(used + 1).to_be_bytes());
+    let _ = bytes.overwrite(start, &block.to_be_bytes());
+    let _ = bytes.overwrite(start + 2, source);
+    let _ = bytes.overwrite(0, &(used + 1).to_be_bytes());
 }

@@ -1,7 +1,9 @@
-ghost use Rattle.std.specs.Prelude.{◌≡◌, ℕ, ◌+◌, ◌≤◌, List, length, refl};
+ghost use Rattle.std.specs.Prelude.{◌≡◌, ℕ, ◌+◌, List, length, is_ok, if◌then◌else◌, nat_le, refl};
 ghost use Rattle.std.proofs.Common.{◌∙◌};
 ghost use Rattle.std.specs.List.{replace_range};
 ghost use Rattle.device.specs.Laws.{BytesLaws, lent_bytes_laws};
+
+use crate::refused::Refused;
 
 // What a device lies in: bytes that it owns, or that are lent to it.
 pub trait Bytes {
@@ -15,18 +17,23 @@ pub trait Bytes {
     fn as_slice(&self) -> &[u8]
         ensures { result.now ≡ bytes self.now };
 
-    // Writes `source` over the bytes from `start` on.
-    fn overwrite(&mut self, start: usize, source: &[u8])
-        requires { start + length source.now ≤ length (bytes self.old) }
-        ensures written { bytes self.new ≡ replace_range (bytes self.old) start (start + length source.now) source.now }
+    // Writes `source` over the bytes from `start` on; a refusal, where it would reach past them, changes nothing.
+    fn overwrite(&mut self, start: usize, source: &[u8]) -> Result<(), Refused>
+        ensures served { is_ok result ≡ nat_le (start + length source.now) (length (bytes self.old)) }
+        ensures sets { bytes self.new ≡ (if is_ok result then replace_range (bytes self.old) start (start + length source.now) source.now else bytes self.old) }
         ensures keeps { kept self.old self.new };
 }
 
-fn write_over(bytes: &mut [u8], start: usize, source: &[u8])
-    requires { start + length source.now ≤ length bytes.old }
-    ensures { bytes.new ≡ replace_range bytes.old start (start + length source.now) source.now }
+fn write_over(bytes: &mut [u8], start: usize, source: &[u8]) -> Result<(), Refused>
+    ensures served { is_ok result ≡ nat_le (start + length source.now) (length bytes.old) }
+    ensures sets { bytes.new ≡ (if is_ok result then replace_range bytes.old start (start + length source.now) source.now else bytes.old) }
 {
+    let last = bytes.len().checked_sub(source.len()).ok_or(Refused)?;
+    if start > last {
+        return Err(Refused);
+    }
     bytes[start..start + source.len()].copy_from_slice(source);
+    Ok(())
 }
 
 impl Bytes for Vec<u8> {
@@ -40,7 +47,7 @@ impl Bytes for Vec<u8> {
         self
     }
 
-    fn overwrite(&mut self, start: usize, source: &[u8]) {
+    fn overwrite(&mut self, start: usize, source: &[u8]) -> Result<(), Refused> {
         write_over(self, start, source)
     }
 }
@@ -56,7 +63,7 @@ impl<const N: usize> Bytes for [u8; N] {
         self
     }
 
-    fn overwrite(&mut self, start: usize, source: &[u8]) {
+    fn overwrite(&mut self, start: usize, source: &[u8]) -> Result<(), Refused> {
         write_over(self, start, source)
     }
 }
@@ -72,7 +79,7 @@ impl Bytes for &mut [u8] {
         self
     }
 
-    fn overwrite(&mut self, start: usize, source: &[u8]) {
+    fn overwrite(&mut self, start: usize, source: &[u8]) -> Result<(), Refused> {
         write_over(self, start, source)
     }
 }
@@ -88,7 +95,7 @@ impl<B: Bytes> Bytes for &mut B {
         (**self).as_slice()
     }
 
-    fn overwrite(&mut self, start: usize, source: &[u8]) {
+    fn overwrite(&mut self, start: usize, source: &[u8]) -> Result<(), Refused> {
         (**self).overwrite(start, source)
     }
 }

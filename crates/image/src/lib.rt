@@ -71,7 +71,6 @@ impl<B: Bytes> Device for Image<B> {
 
     fn write(&mut self, block: u32, source: &[u8]) -> Result<(), Refused> {
         let start = self.place(block, source.len())?;
-        self.bytes.overwrite(start, source);
-        Ok(())
+        self.bytes.overwrite(start, source)
     }
 }
