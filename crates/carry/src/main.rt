@@ -3,13 +3,13 @@
 
 mod carried;
 mod carrying;
+mod error;
 
-use anyhow::anyhow;
 use append_log::{Head, LogBuf};
 use carried::Carried;
 use carrying::carry;
-use copying::CopyError;
 use device::Device;
+use error::CarryError;
 use image::ImageBuf;
 use std::process::ExitCode;
 use std::{env, fs, io};
@@ -27,7 +27,7 @@ fn main(rt: HostRuntime) -> ExitCode {
 fn run(rt: &HostRuntime) -> anyhow::Result<()> {
     let mut args = env::args(rt)?.skip(1);
     let (Some(log_path), Some(image_path)) = (args.next(), args.next()) else {
-        return Err(anyhow!("usage: carry LOG IMAGE"));
+        return Err(CarryError::Usage.into());
     };
     carry_files(rt, log_path.as_str(), image_path.as_str())
 }
@@ -35,16 +35,12 @@ fn run(rt: &HostRuntime) -> anyhow::Result<()> {
 // Reads both files, and writes the image again where a block of it changed.
 fn carry_files(rt: &HostRuntime, log_path: &str, image_path: &str) -> anyhow::Result<()> {
     let log = LogBuf::new(fs::read(rt, log_path)?);
-    let Some(head) = log.head() else {
-        return Err(anyhow!("the log is not valid; nothing is written"));
-    };
+    let head = log.head().ok_or(CarryError::InvalidLog)?;
     tell_log(rt, log_path, head, log.allowance())?;
     let image = ImageBuf::new(fs::read(rt, image_path)?);
     println!(rt; "{image_path}: {} blocks", image.count())?;
-    match carry(rt.alloc(), &log, image) {
-        Ok(carried) => finish(rt, image_path, head, carried),
-        Err(error) => Err(anyhow!(reason(error))),
-    }
+    let carried = carry(rt.alloc(), &log, image).map_err(CarryError::from)?;
+    finish(rt, image_path, head, carried)
 }
 
 fn tell_log(rt: &HostRuntime, path: &str, head: Head, room: u32) -> io::Result<()> {
@@ -64,12 +60,4 @@ fn finish(rt: &HostRuntime, path: &str, head: Head, carried: Carried) -> anyhow:
     let equal = usize::from(head.count).saturating_sub(written.len());
     println!(rt; "{} blocks written, {equal} equal already", written.len())?;
     Ok(())
-}
-
-fn reason(error: CopyError) -> &'static str {
-    match error {
-        CopyError::TooSmall => "the image has fewer blocks than the log; nothing is written",
-        CopyError::Worn => "the image allows too few writes; nothing is written",
-        CopyError::OutOfMemory => "out of memory; nothing is written",
-    }
 }

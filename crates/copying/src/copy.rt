@@ -17,7 +17,8 @@ fn is_other<S: Device, T: Device>(source: &S, target: &T, block: u32) -> bool
     wanted != held
 }
 
-// The blocks of the source that differ in the target.
+// The blocks of the source that differ in the target. A `for`, since `collect` does not say that it
+// finds memory where nothing differs.
 fn find_differing<S: Device, T: Device>(
     heap: Global,
     source: &S,
@@ -64,9 +65,7 @@ pub fn copy_blocks<S: Device, T: Device>(
     if target.count() < source.count() {
         return Err(CopyError::TooSmall);
     }
-    let Ok(blocks) = find_differing(heap, source, target) else {
-        return Err(CopyError::OutOfMemory);
-    };
+    let blocks = find_differing(heap, source, target)?;
     if (target.allowance() as usize) < blocks.len() {
         return Err(CopyError::Worn);
     }
