@@ -1,12 +1,14 @@
 -- What a bucket block holds at each place, and that its records are read back.
-use Rattle.std.proofs.Common.{◌≡◌, ℕ, zero, suc, ◌+◌, ◌*◌, ◌<◌, ◌≤◌, List, [], ◌∷◌, ◌++◌, length, get_or, take, drop, Some, unwrap_or, refl, ap, ◌∙◌, append_assoc, arith, length-append}
+use Rattle.std.proofs.Common.{◌≡◌, ℕ, zero, suc, ◌+◌, ◌-◌, ◌*◌, ◌<◌, ◌≤◌, List, [], ◌∷◌, ◌++◌, map, length, get_or, take, drop, replicate, Option, Some, unwrap_or, refl, ap, ◌∙◌, append_assoc, arith, length-append}
 use lib.ListN.{length-replicate}
+use Rattle.std.specs.List.{range_with_len}
+use Rattle.std.proofs.lemmas.List.FromFn.{length-map-range_with_len, get_or-map-range_with_len}
 use Rattle.std.proofs.lemmas.List.{get_or-append-add, take_at, drop-drop, drop_at, same_lists, get_or_default}
 use Rattle.std.proofs.lemmas.Bool.Decides.{nat_tests}
 use Rattle.words.specs.BigEndian.{be16}
 use Rattle.records.specs.Records.{load}
-use Rattle.records.specs.Items.{offset_at, length_at, bucket_item, record_count, records_in}
-use Rattle.records.proofs.Itemized.{item_is, length-records_in, get_or-records_in}
+use Rattle.records.specs.Items.{offset_at, length_at, item_at, bucket_item, record_count, records_in}
+use Rattle.records.proofs.Itemized.{item_is}
 use Rattle.buckets.specs.declared.prefix.Prefix.{Prefix}
 use Rattle.buckets.specs.Blocks.{size, bodies, pairs, heading, bucket_bytes}
 
@@ -60,6 +62,45 @@ be16_past h x m n e =
 pub drop_past : (h x : List ℕ) (m n : ℕ) → length h + n ≡ m → drop m (h ++ x) ≡ drop n x
 drop_past h x m n e = rw (← e, ← drop-drop n (length h) (h ++ x), drop_at h x (length h) refl)
 
+-- records laid behind a head, which is how a bucket block and a page hold them
+module _ (head tail : List ℕ) (start : ℕ) (long : length head ≡ start) (rs : List (List ℕ)) (small : start + 4 * length rs + size rs < 65536) where
+  abbrev block : List ℕ
+  block = head ++ (pairs (start + 4 * length rs) rs ++ (bodies rs ++ tail))
+
+  offset_is : (i : ℕ) → i < length rs → offset_at block start i ≡ start + 4 * length rs + size (take i rs)
+  offset_is i l = be16_past head _ (start + 4 * i) (4 * i) (omega arith) ∙ pairs_offset (start + 4 * length rs) rs i _ l small
+
+  length_is : (i : ℕ) → i < length rs → length_at block start i ≡ length (get_or rs i [])
+  length_is i l = be16_past head _ (start + 4 * i + 2) (4 * i + 2) (omega arith) ∙ pairs-length (start + 4 * length rs) rs i _ l (omega arith)
+
+  record_is : (i : ℕ) → i < length rs → take (length (get_or rs i [])) (drop (start + 4 * length rs + size (take i rs)) block) ≡ get_or rs i []
+  record_is i l =
+      let k = size (take i rs) in
+      let e =
+      drop_past head _ (start + 4 * length rs + k) (4 * length rs + k) (omega arith)
+      ∙ drop_past (pairs (start + 4 * length rs) rs) _ (4 * length rs + k) k (omega (arith, length_pairs (start + 4 * length rs) rs))
+      in
+      ap (take (length (get_or rs i []))) e ∙ body_at rs i _ l
+
+  -- each is read back
+  pub laid_back : (count i : ℕ) → be16 block count ≡ length rs → i < length rs → item_at count start block i ≡ Some (get_or rs i [])
+  laid_back count i c l =
+      let n : start + (4 * length rs + size rs) ≤ length block = simp length-append (omega (arith, length_pairs (start + 4 * length rs) rs, length_bodies rs)) in
+      let o = offset_is i l in
+      let m = length_is i l in
+      let s = size_take rs i l in
+      item_is count start block i (omega arith) (omega arith) (omega arith) ∙ rw (m, o, record_is i l)
+
+-- a list whose items are told one after another
+pub told_back : (item : ℕ → Option (List ℕ)) (count : ℕ) (rs : List (List ℕ)) → count ≡ length rs → ((i : ℕ) → i < length rs → item i ≡ Some (get_or rs i [])) → map (λ n. unwrap_or (item n) []) (range_with_len 0 count) ≡ rs
+told_back item count rs c each =
+    let f : ℕ → List ℕ = λ n. unwrap_or (item n) [] in
+    same_lists (map f (range_with_len 0 count)) rs (length-map-range_with_len f 0 count ∙ c)
+    (λ k d l.
+    let n = length-map-range_with_len f 0 count in
+    let m : k < length rs = omega arith in
+    get_or-map-range_with_len f 0 count k k d (omega arith) (omega arith) ∙ ap (λ o. unwrap_or {T = List ℕ} o []) (each k m) ∙ get_or_default rs k [] d m)
+
 module _ (prefix : Prefix) (rs : List (List ℕ)) (light : load rs ≤ 504) where
   pub length-bucket : length (bucket_bytes prefix rs) ≡ 512
   unfolding bucket_bytes
@@ -69,44 +110,15 @@ module _ (prefix : Prefix) (rs : List (List ℕ)) (light : load rs ≤ 504) wher
   unfolding bucket_bytes
   count_at = let l = load_is rs in omega arith
 
-  offset_at_lem : (i : ℕ) → i < length rs → offset_at (bucket_bytes prefix rs) 8 i ≡ 8 + 4 * length rs + size (take i rs)
-  unfolding bucket_bytes
-  offset_at_lem i l = be16_past (heading prefix (length rs)) _ (8 + 4 * i) (4 * i) refl ∙ pairs_offset (8 + 4 * length rs) rs i _ l (omega (arith, load_is rs))
-
-  length_at_lem : (i : ℕ) → i < length rs → length_at (bucket_bytes prefix rs) 8 i ≡ length (get_or rs i [])
-  unfolding bucket_bytes
-  length_at_lem i l = be16_past (heading prefix (length rs)) _ (8 + 4 * i + 2) (4 * i + 2) (omega arith) ∙ pairs-length (8 + 4 * length rs) rs i _ l (omega (arith, load_is rs))
-
-  record_at : (i : ℕ) → i < length rs → take (length (get_or rs i [])) (drop (8 + 4 * length rs + size (take i rs)) (bucket_bytes prefix rs)) ≡ get_or rs i []
-  unfolding bucket_bytes
-  record_at i l =
-      let k = size (take i rs) in
-      let e =
-      drop_past (heading prefix (length rs)) _ (8 + 4 * length rs + k) (4 * length rs + k) (omega arith)
-      ∙ drop_past (pairs (8 + 4 * length rs) rs) _ (4 * length rs + k) k (omega (arith, length_pairs (8 + 4 * length rs) rs))
-      in
-      ap (take (length (get_or rs i []))) e ∙ body_at rs i _ l
-
   -- each record is read back
   pub item_back : (i : ℕ) → i < length rs → bucket_item (bucket_bytes prefix rs) i ≡ Some (get_or rs i [])
-  item_back i l =
-      let block = bucket_bytes prefix rs in
-      let n = length-bucket in
-      let o = offset_at_lem i l in
-      let m = length_at_lem i l in
-      let s = size_take rs i l in
-      let w = load_is rs in
-      item_is 2 8 block i (omega (arith, count_at)) (omega arith) (omega arith) ∙ ap (λ k. Some (take k (drop (offset_at block 8 i) block))) m ∙ ap (λ k. Some (take (length (get_or rs i [])) (drop k block))) o ∙ ap Some (record_at i l)
+  unfolding bucket_bytes
+  item_back i l = laid_back (heading prefix (length rs)) (replicate (504 - load rs) 0) 8 refl rs (omega (arith, load_is rs)) 2 i count_at l
 
   count_back : record_count (bucket_bytes prefix rs) ≡ length rs
   count_back = let n = length-bucket in let c = count_at in grind (arith, nat_tests)
 
   -- and so are all
   pub records_back : records_in (bucket_bytes prefix rs) ≡ rs
-  records_back =
-      let block = bucket_bytes prefix rs in
-      let n : length (records_in block) ≡ length rs = length-records_in block ∙ count_back in
-      same_lists (records_in block) rs n
-      (λ k d l.
-      let m : k < length rs = omega arith in
-      get_or_default (records_in block) k d [] l ∙ get_or-records_in block k l ∙ ap (λ o. unwrap_or {T = List ℕ} o []) (item_back k m) ∙ get_or_default rs k [] d m)
+  unfolding records_in
+  records_back = told_back (bucket_item (bucket_bytes prefix rs)) (record_count (bucket_bytes prefix rs)) rs count_back item_back

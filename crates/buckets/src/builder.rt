@@ -6,10 +6,7 @@ ghost use Rattle.buckets.specs.Builds.{pair, partly};
 
 use crate::prefix::Prefix;
 use crate::source::Source;
-use records::PAIR;
-
-// The bytes of a bucket block's heading.
-const HEAD: usize = 8;
+use records::{BUCKET_HEAD, PAIR};
 
 // What records and their pairs may take in a block of 512 bytes.
 const MAX_LOAD: usize = 504;
@@ -52,11 +49,11 @@ fn lay_records<S: Source>(source: &S) -> [u8; 512]
 {
     let mut block = [0; 512];
     let count = source.count();
-    let mut at = HEAD + PAIR * count;
+    let mut at = BUCKET_HEAD + PAIR * count;
     for n in 0..count {
         let record = source.record(n);
         let len = record.len();
-        let pair = HEAD + PAIR * n;
+        let pair = BUCKET_HEAD + PAIR * n;
         block[pair..pair + PAIR].copy_from_slice(&pair_bytes(at as u16, len as u16));
         block[at..at + len].copy_from_slice(record);
         at += len;
@@ -71,6 +68,6 @@ pub fn build<S: Source>(prefix: Prefix, source: &S) -> Option<[u8; 512]>
 {
     room_left(source)?;
     let mut block = lay_records(source);
-    block[..HEAD].copy_from_slice(&heading_bytes(prefix, source.count() as u16));
+    block[..BUCKET_HEAD].copy_from_slice(&heading_bytes(prefix, source.count() as u16));
     Some(block)
 }

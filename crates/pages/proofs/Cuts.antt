@@ -87,6 +87,3 @@ over-over a m x y b e l =
     ∙ ap (λ n. drop n b) (omega (arith, length-append x y))
     in
     rw (t, s) (append_assoc p x _ ∙ ap (λ z. p ++ z) (sym (append_assoc x y _)))
-
-pub length_over : (a : ℕ) (x b : List ℕ) → a + length x ≤ length b → length (over a x b) ≡ length b
-length_over a x b l = simp (length-append, length-drop) (omega (arith, length-take-le a b (omega arith)))

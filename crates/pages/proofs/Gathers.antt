@@ -1,5 +1,5 @@
 -- What a page builder holds, before and after one more record, and the page that it makes.
-use Rattle.std.proofs.Common.{◌≡◌, ℕ, ◌+◌, ◌*◌, ◌≤◌, Bool, List, [], ◌∷◌, ◌++◌, length, drop, sym, refl, ap, ◌∙◌, append_assoc, arith, length-append}
+use Rattle.std.proofs.Common.{◌≡◌, ℕ, ◌+◌, ◌*◌, ◌≤◌, Bool, List, ◌++◌, length, drop, sym, refl, ap, ◌∙◌, append_assoc, arith, length-append}
 use borrow.Rule.Slice.PartMut.{put_mid}
 use Rattle.buckets.specs.Blocks.{size, bodies, pairs}
 use Rattle.buckets.specs.Builds.{over}
@@ -8,7 +8,7 @@ use Rattle.buckets.proofs.Built.{put_is}
 use Rattle.pages.specs.Pages.{used, page_bytes}
 use Rattle.pages.specs.Gathered.{gathered, page_head, pairs_by}
 use Rattle.pages.specs.declared.builder.PageBuilder.{PageBuilder}
-use Rattle.pages.proofs.Cuts.{length_cut, bodies-cut, size-cut, pairs-cut, cut_push, over-over, length-pairs_by}
+use Rattle.pages.proofs.Cuts.{length_cut, bodies-cut, size-cut, pairs-cut, over-over, length-pairs_by}
 
 module _ (p : PageBuilder) where
   abbrev pub lens_of : List ℕ
@@ -39,11 +39,6 @@ module _ (p : PageBuilder) where
   -- what is gathered fits
   pub gathered_fits : used (gathered p) ≤ p.size
   gathered_fits = let a = used-gathered in let b = p.fits in omega arith
-
-  -- one record more
-  pub gathered_push : (q : PageBuilder) (item : List ℕ) → q.lens.items ≡ lens_of ++ length item ∷ [] → q.bytes.items ≡ bytes_of ++ item → gathered q ≡ gathered p ++ item ∷ []
-  unfolding gathered
-  gathered_push q item el eb = rw (el, eb) (cut_push lens_of bytes_of item p.summed)
 
   -- head, pairs and bytes, written one after another
   pub page_written : (end : Bool) (b : List ℕ) → length b ≡ p.size → over (4 + 4 * length lens_of) bytes_of (over 4 (pairs_by (4 + 4 * length lens_of) lens_of) (over 0 (page_head (length lens_of) end) b)) ≡ page_bytes (gathered p) end b

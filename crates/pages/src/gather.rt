@@ -6,21 +6,16 @@ ghost use Rattle.pages.specs.Gathered.{is_page_size, gathered, answer_of, page_h
 
 use crate::answer::PageAnswer;
 use crate::builder::PageBuilder;
+use crate::full::Full;
 use arrayvec::ArrayVec;
 use buckets::pair_bytes;
-use records::PAIR;
-
-// The bytes of a page's head: the count of records, the end mark and a zero.
-const HEAD: usize = 4;
+use records::{PAGE_HEAD, PAIR};
 
 const MIN_SIZE: usize = 64;
 
 const MAX_SIZE: usize = 4096;
 
-// A record no longer fits onto a page.
-#[derive(Clone, Copy, Debug, PartialEq, Eq)]
-pub struct Full;
-
+// The count of records, the end mark and a zero.
 fn head_bytes(count: u16, end: bool) -> [u8; 4]
     ensures { result ≡ page_head count end }
 {
@@ -35,7 +30,7 @@ fn write_pairs(buffer: &mut [u8], lens: &[u16], start: usize)
 {
     let mut offset = start;
     for (n, len) in lens.iter().enumerate() {
-        let at = HEAD + PAIR * n;
+        let at = PAGE_HEAD + PAIR * n;
         buffer[at..at + PAIR].copy_from_slice(&pair_bytes(offset as u16, *len));
         offset += usize::from(*len);
     }
@@ -64,7 +59,7 @@ impl PageBuilder {
         ensures after { gathered self.new ≡ (if is_ok result then gathered self.old ++ item.now ∷ [] else gathered self.old) }
         ensures size { self.new.size ≡ self.old.size }
     {
-        let left = self.size - (HEAD + PAIR * self.lens.len() + self.bytes.len());
+        let left = self.size - (PAGE_HEAD + PAIR * self.lens.len() + self.bytes.len());
         if left < PAIR || left - PAIR < item.len() {
             return Err(Full);
         }
@@ -82,9 +77,9 @@ impl PageBuilder {
             return None;
         }
         let count = self.lens.len() as u16;
-        let start = HEAD + PAIR * self.lens.len();
+        let start = PAGE_HEAD + PAIR * self.lens.len();
         let used = start + self.bytes.len();
-        buffer[..HEAD].copy_from_slice(&head_bytes(count, end));
+        buffer[..PAGE_HEAD].copy_from_slice(&head_bytes(count, end));
         write_pairs(buffer, &self.lens, start);
         buffer[start..used].copy_from_slice(&self.bytes);
         Some(PageAnswer {

@@ -3,8 +3,9 @@
 
 mod answer;
 mod builder;
+mod full;
 mod gather;
 
 pub use answer::PageAnswer;
 pub use builder::PageBuilder;
-pub use gather::Full;
+pub use full::Full;

@@ -7,6 +7,11 @@ ghost use Rattle.records.specs.Items.{item_at, bucket_item, page_item, records_i
 use crate::record::read_record;
 use words::u16_at;
 
+// The bytes before the pairs of a bucket block, and of a page.
+pub const BUCKET_HEAD: usize = 8;
+
+pub const PAGE_HEAD: usize = 4;
+
 // The bytes of a record's pair, its offset and its length.
 pub const PAIR: usize = 4;
 
@@ -37,14 +42,14 @@ fn item(bytes: &[u8], count: usize, pairs: usize, n: usize) -> Option<&[u8]>
 pub fn bucket_record(block: &[u8], n: usize) -> Option<&[u8]>
     ensures { option_map (λ x. x.now) result ≡ bucket_item block.now n }
 {
-    item(block, 2, 8, n)
+    item(block, 2, BUCKET_HEAD, n)
 }
 
 // Record n of a page.
 pub fn page_record(page: &[u8], n: usize) -> Option<&[u8]>
     ensures { option_map (λ x. x.now) result ≡ page_item page.now n }
 {
-    item(page, 0, 4, n)
+    item(page, 0, PAGE_HEAD, n)
 }
 
 // How many records a bucket block counts.

@@ -5,6 +5,8 @@ mod items;
 mod record;
 mod search;
 
-pub use items::{PAIR, bucket_count, bucket_key, bucket_record, page_record};
+pub use items::{
+    BUCKET_HEAD, PAGE_HEAD, PAIR, bucket_count, bucket_key, bucket_record, page_record,
+};
 pub use record::{MAX_RECORD, Record, read_record};
 pub use search::{find, place_for};
