@@ -1,6 +1,5 @@
 -- What the bucket block of a slot tells.
-use Rattle.std.proofs.Common.{◌≡◌, ℕ, ◌-◌, ◌*◌, ◌/◌, ◌%◌, ◌^◌, ◌<◌, cond, ◌&&◌, eqb, leb, List, get_or, Some, None, Option, refl, ap, ◌∙◌, subst, arith}
-use Rattle.std.proofs.lemmas.Bool.{cond-true, le-leb}
+use Rattle.std.proofs.Common.{◌≡◌, ℕ, ◌+◌, ◌*◌, ◌/◌, ◌%◌, ◌^◌, ◌<◌, List, get_or, Ok, Err, Result, refl, ap, ◌∙◌, subst, arith}
 use Rattle.kinds.specs.Kinds.{Kind}
 use Rattle.records.specs.Items.{records_in}
 use Rattle.records.specs.Searches.{Sorted}
@@ -13,11 +12,11 @@ use Rattle.shape.proofs.Rooms.{room_le}
 use Rattle.index.specs.Stored.{Blocks, Stored, BucketIn, block, prefix_at, room_at, bucket_for, slots}
 use Rattle.index.proofs.Reading.{bucket-light, sorted_under, number-told}
 
-pub some_same : {X : Type 0} (o : Option X) (x y : X) → o ≡ Some x → o ≡ Some y → x ≡ y
-some_same o x y p q = cc
+pub ok_same : {X E : Type 0} {x y : X} → ◌≡◌ {A = Result X E} (Ok x) (Ok y) → x ≡ y
+ok_same e = cc
 
-pub some_none : {X : Type 0} (o : Option X) (x : X) → o ≡ Some x → o ≡ None → ⊥
-some_none o x p q = let z : ◌≡◌ {A = ℕ} 0 1 = cc in omega arith
+pub ok_err : {X E : Type 0} {x : X} {e : E} → ◌≡◌ {A = Result X E} (Err e) (Ok x) → ⊥
+ok_err e = cc
 
 bucket_tag : (prefix : Prefix) (rs : List (List ℕ)) → get_or (bucket_bytes prefix rs) 0 0 ≡ 3
 unfolding bucket_bytes
@@ -44,14 +43,10 @@ module _ (kind : Kind) (blocks : Blocks) (head : ℕ) (rs : List (List ℕ)) (st
   pub bucket_sorted : Sorted kind bucket_here
   bucket_sorted = sorted_under kind room_here (s / 2 ^ room_here) rs st.sorted
 
-  pub bucket-room : cond (eqb (get_or (bucket_for kind rs s) 0 0) 3 && leb (get_or (bucket_for kind rs s) 1 0) 7) (Some (7 - get_or (bucket_for kind rs s) 1 0)) None ≡ Some room_here
+  pub bucket-room : (get_or (bucket_for kind rs s) 0 0 ≡ 3) × (get_or (bucket_for kind rs s) 1 0 + room_here ≡ 7)
   bucket-room =
       let prefix = prefix_at room_here (s / 2 ^ room_here) in
-      let t = bucket_tag prefix bucket_here in
-      let b = bucket_bits prefix bucket_here in
-      let m = room_le (by_key kind) 7 rs s in
-      let e : 7 - (7 - room_here) ≡ room_here = omega arith in
-      rw (t, b) (cond-true (leb (7 - room_here) 7) (Some (7 - (7 - room_here))) None (le-leb (7 - room_here) 7 (omega arith)) ∙ ap Some e)
+      (bucket_tag prefix bucket_here, omega (arith, bucket_bits prefix bucket_here, room_le (by_key kind) 7 rs s))
 
   -- what is read for the slot is its bucket
   pub bucket_read : (header : List ℕ) (number : ℕ) (bytes : List ℕ) → header ≡ block blocks head → BucketIn blocks header (s * 2 ^ 25 % 2 ^ 32) number bytes → bytes ≡ bucket_for kind rs s

@@ -1,5 +1,5 @@
 -- One bucket on the way through an index.
-use Rattle.std.proofs.Common.{◌≡◌, ℕ, ◌+◌, ◌-◌, ◌*◌, ◌/◌, ◌^◌, ◌<◌, ◌≤◌, true, false, cond, ◌&&◌, eqb, leb, List, ◌++◌, get_or, Some, None, sym, ap, ◌∙◌, subst, div-mul-le_self, arith}
+use Rattle.std.proofs.Common.{◌≡◌, ℕ, ◌+◌, ◌*◌, ◌/◌, ◌^◌, ◌<◌, ◌≤◌, true, false, List, ◌++◌, get_or, sym, ap, ◌∙◌, subst, div-mul-le_self, arith}
 use Rattle.std.proofs.lemmas.Bool.{both_ways}
 use Rattle.kinds.specs.Kinds.{Kind, Bounded}
 use Rattle.records.specs.Items.{records_in}
@@ -51,8 +51,8 @@ module _ (kind : Kind) (blocks : Blocks) (head : ℕ) (rs : List (List ℕ)) (st
   pub block_sorted : Sorted kind (records_in block)
   block_sorted = subst (Sorted kind) (sym records_are) (bucket_sorted kind blocks head rs st s l)
 
-  pub room_of : cond (eqb (get_or block 0 0) 3 && leb (get_or block 1 0) 7) (Some (7 - get_or block 1 0)) None ≡ Some (room_at kind rs s)
-  room_of = ap (λ (b : List ℕ). cond (eqb (get_or b 0 0) 3 && leb (get_or b 1 0) 7) (Some (7 - get_or b 1 0)) None) is_bucket ∙ bucket-room kind blocks head rs st s l
+  pub room_of : (get_or block 0 0 ≡ 3) × (get_or block 1 0 + room_at kind rs s ≡ 7)
+  room_of = subst (λ (b : List ℕ). (get_or b 0 0 ≡ 3) × (get_or b 1 0 + room_at kind rs s ≡ 7)) (sym is_bucket) (bucket-room kind blocks head rs st s l)
 
   -- each record of a bucket is read
   pub readable : Unreadable (records_in block) → ⊥

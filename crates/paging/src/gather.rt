@@ -1,4 +1,4 @@
-ghost use Rattle.std.specs.Prelude.{◌≡◌, ℕ, ◌/◌, ◌^◌, ◌<◌, true, false, List, [], length, drop, if◌then◌else◌, MatchOption, nat_eq, slice_index_or};
+ghost use Rattle.std.specs.Prelude.{◌≡◌, ℕ, ◌/◌, ◌^◌, ◌<◌, true, false, List, [], length, drop, if◌then◌else◌, MatchOption, MatchResult, nat_eq, slice_index_or};
 ghost use Rattle.records.specs.Items.{records_in};
 ghost use Rattle.records.specs.Records.{is_record};
 ghost use Rattle.records.specs.Searches.{Sorted};
@@ -10,11 +10,11 @@ ghost use Rattle.paging.specs.Refusals.{is_bookmark};
 ghost use Rattle.paging.specs.Unread.{Unreadable};
 
 use crate::blocks::{bucket_of, next_slot, room_in};
+use crate::refusal::NoIndex;
 use device::Device;
 use kinds::KeyKind;
 use pages::PageBuilder;
 use records::{bucket_count, bucket_key, bucket_record, place_for, read_record};
-use std::cmp::Ordering;
 
 // The slots of a header: one for each 7 bits that a hash may begin with.
 const SLOTS: u32 = 128;
@@ -30,16 +30,17 @@ fn record_at(block: &[u8], n: usize) -> Option<&[u8]>
 }
 
 // Takes the records of a bucket block from a place on, until one does not fit. The answer is whether all did.
-fn take_from(block: &[u8], from: usize, page: &mut PageBuilder) -> Option<bool>
+fn take_from(block: &[u8], from: usize, page: &mut PageBuilder) -> Result<bool, NoIndex>
     ensures size { page.new.size ≡ page.old.size }
-    ensures took { MatchOption result (Unreadable (records_in block.now)) (λ whole. Took page.old.size (gathered page.old) (drop from (records_in block.now)) (gathered page.new) whole) }
+    ensures took { MatchResult result (λ whole. Took page.old.size (gathered page.old) (drop from (records_in block.now)) (gathered page.new) whole) (λ _. Unreadable (records_in block.now)) }
 {
     for n in from..bucket_count(block) {
-        if page.push(record_at(block, n)?).is_err() {
-            return Some(false);
+        let record = record_at(block, n).ok_or(NoIndex)?;
+        if page.push(record).is_err() {
+            return Ok(false);
         }
     }
-    Some(true)
+    Ok(true)
 }
 
 // How many records of a bucket block a bookmark leaves behind.
@@ -51,14 +52,8 @@ fn passed<K: KeyKind>(block: &[u8], bookmark: &[u8]) -> usize
     }
     let place = place_for::<K>(block, bookmark);
     match bucket_key(block, place) {
-        Some(key) => {
-            if K::compare(key, bookmark) == Ordering::Equal {
-                place + 1
-            } else {
-                place
-            }
-        }
-        None => place,
+        Some(key) if K::compare(key, bookmark).is_eq() => place + 1,
+        _ => place,
     }
 }
 
@@ -78,20 +73,19 @@ pub(crate) fn gather<D: Device, K: KeyKind>(
     header: &[u8],
     bookmark: &[u8],
     page: &mut PageBuilder,
-) -> Option<bool>
+) -> Result<bool, NoIndex>
     ensures size { page.new.size ≡ page.old.size }
-    ensures took { (head : ℕ) (rs : List (List ℕ)) → Stored K.KeyKind.kind (D.Device.contents device.now) head rs → header.now ≡ slice_index_or (D.Device.contents device.now) head [] → is_bookmark K.KeyKind.kind bookmark.now ≡ true → MatchOption result ⊥ (λ whole. Took page.old.size (gathered page.old) (following K.KeyKind.kind bookmark.now rs) (gathered page.new) whole) }
+    ensures took { (head : ℕ) (rs : List (List ℕ)) → Stored K.KeyKind.kind (D.Device.contents device.now) head rs → header.now ≡ slice_index_or (D.Device.contents device.now) head [] → is_bookmark K.KeyKind.kind bookmark.now ≡ true → MatchResult result (λ whole. Took page.old.size (gathered page.old) (following K.KeyKind.kind bookmark.now rs) (gathered page.new) whole) (λ _. ⊥) }
 {
     let mut slot = first_slot::<K>(bookmark);
     while slot < SLOTS {
         let block = bucket_of(device, header, slot)?;
         let room = room_in(&block)?;
         let from = passed::<K>(&block, bookmark);
-        let whole = take_from(&block, from, page)?;
-        if !whole {
-            return Some(false);
+        if !take_from(&block, from, page)? {
+            return Ok(false);
         }
         slot = next_slot(slot, room);
     }
-    Some(true)
+    Ok(true)
 }

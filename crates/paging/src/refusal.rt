@@ -1,5 +1,10 @@
 ghost use Rattle.std.specs.Prelude.{◌≡◌};
 ghost use Rattle.paging.specs.Refusals.{number};
+ghost use Rattle.paging.specs.declared.refusal.PageError.TheVariants.{Broken};
+
+use index::Fault;
+use std::error::Error;
+use std::fmt;
 
 // Why there is no page.
 #[derive(Clone, Copy, Debug, PartialEq, Eq)]
@@ -22,5 +27,35 @@ impl PageError {
             PageError::Bookmark => Some(7),
             PageError::Broken => None,
         }
+    }
+}
+
+impl fmt::Display for PageError {
+    fn fmt<W: fmt::Write>(&self, f: &mut fmt::Formatter<W>) -> fmt::Result {
+        f.write_str(match self {
+            PageError::Buffer => "refused 6, a bad buffer",
+            PageError::Bookmark => "refused 7, a bad bookmark",
+            PageError::Broken => "no index",
+        })
+    }
+}
+
+impl Error for PageError {}
+
+// The blocks are not those of an index.
+#[derive(Clone, Copy, Debug, PartialEq, Eq)]
+pub(crate) struct NoIndex;
+
+impl From<Fault> for NoIndex {
+    fn from(_fault: Fault) -> Self {
+        NoIndex
+    }
+}
+
+impl From<NoIndex> for PageError {
+    ghost from_gives = { λ _ e. e ≡ Broken };
+
+    fn from(_none: NoIndex) -> Self {
+        PageError::Broken
     }
 }

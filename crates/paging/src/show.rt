@@ -29,20 +29,11 @@ pub fn page<D: Device, K: KeyKind>(
     ensures answer { (rs : List (List ℕ)) → Stored K.KeyKind.kind (D.Device.contents device.now) head rs → misasked K.KeyKind.kind bookmark.now (length buffer.old) ≡ None → result ≡ Ok (answer_of (shown K.KeyKind.kind bookmark.now (length buffer.old) rs) (is_end K.KeyKind.kind bookmark.now (length buffer.old) rs)) }
     ensures bytes { (rs : List (List ℕ)) → Stored K.KeyKind.kind (D.Device.contents device.now) head rs → misasked K.KeyKind.kind bookmark.now (length buffer.old) ≡ None → buffer.new ≡ paged K.KeyKind.kind bookmark.now rs buffer.old }
 {
-    let Some(mut builder) = PageBuilder::new(buffer.len()) else {
-        return Err(PageError::Buffer);
-    };
+    let mut builder = PageBuilder::new(buffer.len()).ok_or(PageError::Buffer)?;
     if !is_bookmark::<K>(bookmark) {
         return Err(PageError::Bookmark);
     }
-    let Some(header) = read_header(device, head) else {
-        return Err(PageError::Broken);
-    };
-    let Some(end) = gather::<D, K>(device, &header, bookmark, &mut builder) else {
-        return Err(PageError::Broken);
-    };
-    match builder.finish(end, buffer) {
-        Some(answer) => Ok(answer),
-        None => Err(PageError::Broken),
-    }
+    let header = read_header(device, head)?;
+    let end = gather::<D, K>(device, &header, bookmark, &mut builder)?;
+    builder.finish(end, buffer).ok_or(PageError::Broken)
 }

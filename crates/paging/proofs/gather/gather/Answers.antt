@@ -1,11 +1,10 @@
-use Rattle.std.proofs.Common.{◌≡◌, ℕ, ◌+◌, ◌*◌, ◌/◌, ◌^◌, ◌<◌, ◌≤◌, true, false, List, drop, Some, Option, sym, refl, ap, ◌∙◌, subst, arith}
-use Rattle.kinds.specs.Kinds.{Kind}
+use Rattle.std.proofs.Common.{◌≡◌, ◌+◌, ◌*◌, ◌/◌, ◌^◌, ◌<◌, ◌≤◌, true, false, drop, sym, refl, ap, ◌∙◌, subst, arith}
 use Rattle.records.specs.Items.{records_in}
 use Rattle.pages.specs.Gathered.{gathered}
 use Rattle.pages.specs.Pages.{used}
 use Rattle.pages.proofs.Gathers.{gathered_fits}
-use Rattle.index.specs.Stored.{bucket_for, room_at}
-use Rattle.paging.proofs.Led.{some_same, some_none}
+use Rattle.index.specs.Stored.{room_at}
+use Rattle.paging.proofs.Led.{ok_same, ok_err}
 use Rattle.pages.proofs.Taken.{took_at}
 use Rattle.paging.proofs.Turns.{Walking, walking_none, walking_all, block_sorted, room_of, readable, walking-more, walking-stop}
 use Rattle.paging.proofs.gather.gather.Goals as goal
@@ -13,44 +12,32 @@ use Rattle.paging.proofs.gather.gather.Goals as goal
 pub loop-slot-init : goal.loop-slot-init
 loop-slot-init g c = (refl, λ head rs st e b. walking_none g.K.KeyKind.kind c.args.bookmark.now rs c.args.page.now.size (gathered c.args.page.now) c.first_slot-slot.result c.first_slot-slot.ensures)
 
--- the block that was read is the slot's bucket
-is_bucket : (kind : Kind) (rs : List (List ℕ)) (slot : ℕ) (block : List ℕ) (o : Option (List ℕ)) → o ≡ Some (bucket_for kind rs slot) → o ≡ Some block → block ≡ bucket_for kind rs slot
-is_bucket kind rs slot block o p q = some_same o block (bucket_for kind rs slot) q p
-
 pub returns-in_err-block : goal.returns-in_err-block
 returns-in_err-block g c = record {
   size = c.loop-slot.invariant.0;
-  took = λ head rs st e b. absurd (some_none c.bucket_of.result _ (c.bucket_of.ensures g.K.KeyKind.kind head rs st e) c.in_err-block.was);
+  took = λ head rs st e b. absurd (ok_err (c.in_err-block.ensures g.K.KeyKind.kind head rs st e));
 }
 
 pub returns-in_err-room : goal.returns-in_err-room
 returns-in_err-room g c = record {
   size = c.loop-slot.invariant.0;
   took = λ head rs st e b.
-      let kind = g.K.KeyKind.kind in
-      let blocks = g.D.Device.contents c.args.device.now in
-      let slot = c.loop-slot.slot in
-      let block = c.in_ok-block.block in
-      let is = is_bucket kind rs slot block c.bucket_of.result (c.bucket_of.ensures kind head rs st e) c.in_ok-block.was in
-      let room : c.room_in.result ≡ Some (room_at kind rs slot) = c.room_in.ensures ∙ room_of kind blocks head rs st slot (omega arith) block is in
-      absurd (some_none c.room_in.result (room_at kind rs slot) room c.in_err-room.was);
+      let is = ok_same (c.in_ok-block.ensures g.K.KeyKind.kind head rs st e) in
+      let room = room_of g.K.KeyKind.kind (g.D.Device.contents c.args.device.now) head rs st c.loop-slot.slot (omega arith) c.in_ok-block.block is in
+      absurd (omega (arith, room, c.in_err-room.ensures room.0));
 }
 
-pub returns-in_err-whole : goal.returns-in_err-whole
-returns-in_err-whole g c = record {
-  size = c.in_err-whole.ensures.size ∙ c.loop-slot.invariant.0;
+pub returns-in_err-take_from : goal.returns-in_err-take_from
+returns-in_err-take_from g c = record {
+  size = c.in_err-take_from.ensures.size ∙ c.loop-slot.invariant.0;
   took = λ head rs st e b.
-      let kind = g.K.KeyKind.kind in
-      let blocks = g.D.Device.contents c.args.device.now in
-      let slot = c.loop-slot.slot in
-      let block = c.in_ok-block.block in
-      let is = is_bucket kind rs slot block c.bucket_of.result (c.bucket_of.ensures kind head rs st e) c.in_ok-block.was in
-      absurd (readable kind blocks head rs st slot (omega arith) block is c.in_err-whole.ensures.took);
+      let is = ok_same (c.in_ok-block.ensures g.K.KeyKind.kind head rs st e) in
+      absurd (readable g.K.KeyKind.kind (g.D.Device.contents c.args.device.now) head rs st c.loop-slot.slot (omega arith) c.in_ok-block.block is c.in_err-take_from.ensures.took);
 }
 
-pub returns-then-not-whole : goal.returns-then-not-whole
-returns-then-not-whole g c = record {
-  size = c.in_ok-whole.ensures.size ∙ c.loop-slot.invariant.0;
+pub returns-then-not-branch : goal.returns-then-not-branch
+returns-then-not-branch g c = record {
+  size = c.in_ok-take_from.ensures.size ∙ c.loop-slot.invariant.0;
   took = λ head rs st e b.
       let kind = g.K.KeyKind.kind in
       let blocks = g.D.Device.contents c.args.device.now in
@@ -58,7 +45,7 @@ returns-then-not-whole g c = record {
       let slot = c.loop-slot.slot in
       let l : slot < 128 = omega arith in
       let block = c.in_ok-block.block in
-      let is = is_bucket kind rs slot block c.bucket_of.result (c.bucket_of.ensures kind head rs st e) c.in_ok-block.was in
+      let is = ok_same (c.in_ok-block.ensures kind head rs st e) in
       let p = c.args.page.now in
       let q = c.loop-slot.page in
       let r = c.take_from.new.page in
@@ -66,13 +53,13 @@ returns-then-not-whole g c = record {
       let items = drop c.passed-from.result (records_in block) in
       let fits : used (gathered q) ≤ p.size = omega (arith, gathered_fits q) in
       let are = c.passed-from.ensures (block_sorted kind blocks head rs st slot l block is) b in
-      let took = took_at q.size p.size (gathered q) items (gathered r) c.in_ok-whole.whole false same c.if-not-whole.true c.in_ok-whole.ensures.took in
+      let took = took_at q.size p.size (gathered q) items (gathered r) c.in_ok-take_from.field-0 false same c.if-not-branch.true c.in_ok-take_from.ensures.took in
       walking-stop kind blocks head rs st slot l block is bookmark p.size (gathered p) (gathered q) (gathered r) items fits (c.loop-slot.invariant.1 head rs st e b) are took;
 }
 
 pub loop-slot-preserved : goal.loop-slot-preserved
 loop-slot-preserved g c = (
-  c.in_ok-whole.ensures.size ∙ c.loop-slot.invariant.0,
+  c.in_ok-take_from.ensures.size ∙ c.loop-slot.invariant.0,
   λ head rs st e b.
       let kind = g.K.KeyKind.kind in
       let blocks = g.D.Device.contents c.args.device.now in
@@ -80,7 +67,7 @@ loop-slot-preserved g c = (
       let slot = c.loop-slot.slot in
       let l : slot < 128 = omega arith in
       let block = c.in_ok-block.block in
-      let is = is_bucket kind rs slot block c.bucket_of.result (c.bucket_of.ensures kind head rs st e) c.in_ok-block.was in
+      let is = ok_same (c.in_ok-block.ensures kind head rs st e) in
       let p = c.args.page.now in
       let q = c.loop-slot.page in
       let r = c.take_from.new.page in
@@ -88,10 +75,10 @@ loop-slot-preserved g c = (
       let items = drop c.passed-from.result (records_in block) in
       let fits : used (gathered q) ≤ p.size = omega (arith, gathered_fits q) in
       let are = c.passed-from.ensures (block_sorted kind blocks head rs st slot l block is) b in
-      let took = took_at q.size p.size (gathered q) items (gathered r) c.in_ok-whole.whole true same c.if-not-whole.false c.in_ok-whole.ensures.took in
+      let took = took_at q.size p.size (gathered q) items (gathered r) c.in_ok-take_from.field-0 true same c.if-not-branch.false c.in_ok-take_from.ensures.took in
       let more = walking-more kind blocks head rs st slot l block is bookmark p.size (gathered p) (gathered q) (gathered r) items fits (c.loop-slot.invariant.1 head rs st e b) are took in
-      let told = c.room_in.ensures ∙ room_of kind blocks head rs st slot l block is in
-      let room : c.in_ok-room.room ≡ room_at kind rs slot = some_same c.room_in.result c.in_ok-room.room (room_at kind rs slot) c.in_ok-room.was told in
+      let told = room_of kind blocks head rs st slot l block is in
+      let room : c.in_ok-room.room ≡ room_at kind rs slot = omega (arith, told, c.in_ok-room.ensures) in
       let next : c.next_slot-slot.result ≡ (slot / 2 ^ room_at kind rs slot + 1) * 2 ^ room_at kind rs slot = c.next_slot-slot.ensures.value ∙ ap (λ k. (slot / 2 ^ k + 1) * 2 ^ k) room in
       subst (Walking kind bookmark rs p.size (gathered p) (gathered r)) (sym next) more,
 )

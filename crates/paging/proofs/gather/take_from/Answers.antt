@@ -1,4 +1,4 @@
-use Rattle.std.proofs.Common.{◌≡◌, ◌+◌, ◌<◌, ◌≤◌, true, false, is_ok, [], ◌∷◌, ◌++◌, get_or, drop, sym, ap, ◌∙◌, subst, arith}
+use Rattle.std.proofs.Common.{◌≡◌, ◌+◌, ◌<◌, ◌≤◌, true, false, is_ok, [], ◌∷◌, ◌++◌, get_or, drop, sym, ap, ◌∙◌, subst, rules, arith}
 use Rattle.std.proofs.lemmas.List.{drop_more, drop_all}
 use Rattle.std.proofs.lemmas.Bool.{leb-true, leb-false}
 use Rattle.records.specs.Items.{records_in}
@@ -17,12 +17,12 @@ returns-then-is_err c =
     let n = c.loop-n.n in
     let item = get_or rs n [] in
     let items = drop c.args.from rs in
-    let is = c.in_ok-record_at.ensures in
+    let is : c.in_ok-record.record.now ≡ item = search rules in
     let after = c.push.ensures in
     let none : is_ok c.push.result ≡ false = grind arith in
     let size : q.size ≡ p.size = c.loop-n.invariant.0 in
-    let heavy : q.size < used (gathered q) + weight c.in_ok-record_at.field-0.now = leb-false _ _ (sym after.taken ∙ none) in
-    let w : weight c.in_ok-record_at.field-0.now ≡ weight item = ap weight is in
+    let heavy : q.size < used (gathered q) + weight c.in_ok-record.record.now = leb-false _ _ (sym after.taken ∙ none) in
+    let w : weight c.in_ok-record.record.now ≡ weight item = ap weight is in
     let t : Taking p.size (gathered p) items (gathered q) (item ∷ drop (n + 1) rs) = subst (λ rest. Taking p.size (gathered p) items (gathered q) rest) (drop_more rs n [] (omega arith)) c.loop-n.invariant.1 in
     record {
       size = after.size ∙ size;
@@ -37,12 +37,12 @@ loop-n-preserved c =
     let n = c.loop-n.n in
     let item = get_or rs n [] in
     let items = drop c.args.from rs in
-    let is = c.in_ok-record_at.ensures in
+    let is : c.in_ok-record.record.now ≡ item = search rules in
     let after = c.push.ensures in
     let some : is_ok c.push.result ≡ true = grind arith in
     let size : q.size ≡ p.size = c.loop-n.invariant.0 in
-    let light : used (gathered q) + weight c.in_ok-record_at.field-0.now ≤ q.size = leb-true _ _ (sym after.taken ∙ some) in
-    let w : weight c.in_ok-record_at.field-0.now ≡ weight item = ap weight is in
+    let light : used (gathered q) + weight c.in_ok-record.record.now ≤ q.size = leb-true _ _ (sym after.taken ∙ some) in
+    let w : weight c.in_ok-record.record.now ≡ weight item = ap weight is in
     let t : Taking p.size (gathered p) items (gathered q) (item ∷ drop (n + 1) rs) = subst (λ rest. Taking p.size (gathered p) items (gathered q) rest) (drop_more rs n [] (omega arith)) c.loop-n.invariant.1 in
     let more : gathered c.push.new.self ≡ gathered q ++ item ∷ [] = rw some at after.after ∙ ap (λ x. gathered q ++ x ∷ []) is in
     (after.size ∙ size, subst (λ now. Taking p.size (gathered p) items now (drop (n + 1) rs)) (sym more) (taking-more p.size (gathered p) items (gathered q) item (drop (n + 1) rs) t (omega arith)))
