@@ -84,7 +84,7 @@ module _ {kind : Kind} {blocks : Blocks} {head : ℕ} {old new : List (List ℕ)
           let pi = place_is (by_key kind) K P new i s (leaf 0 0) bi e in
           let at = leaf_at (by_key kind) K P new s (leaf 0 0) pi.0 in
           let lf : get_or (leaves (by_key kind) K P new) i (leaf 0 0) ≡ leaf (room (by_key kind) K new s) (s / 2 ^ room (by_key kind) K new s) = ap (λ n. get_or (leaves (by_key kind) K P new) n (leaf 0 0)) (sym pi.1) ∙ at.1 in (
-            run_pointer kind blocks head old due.stored plan.slot s due.planned.slot ls (near s pi.0) ∙ sym due.planned.number ∙ ap (λ n. get_or (plan.number ∷ spare) n 0) (sym z),
+            run_pointer due.stored plan.slot s due.planned.slot ls (near s pi.0) ∙ sym due.planned.number ∙ ap (λ n. get_or (plan.number ∷ spare) n 0) (sym z),
             get_or-rooms kind old s ls ∙ sym (room-same s) ∙ room_on due s pi.0 ∙ sym (ap (λ x. x.room) lf),
           );
       off = λ s l ne. (refl, refl);

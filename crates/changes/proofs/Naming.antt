@@ -57,7 +57,7 @@ module _ (kind : Kind) (blocks : Blocks) (head : ℕ) (old : List (List ℕ)) (s
       let near : first_slot x / 2 ^ room_at kind old s ≡ s / 2 ^ room_at kind old s
       = subst (λ y. first_slot y / 2 ^ room_at kind old s ≡ s / 2 ^ room_at kind old s) (sym at.1) (first_within (room_at kind old s) (s / 2 ^ room_at kind old s)) in
       let same : get_or (pointers (block blocks head) ls) i 0 ≡ get_or S s 0
-      = get_or-map (λ y. get_or S (first_slot y) 0) ls i (leaf 0 0) 0 at.0 ∙ run_pointer kind blocks head old st s (first_slot x) l (first_small i at.0) near in
+      = get_or-map (λ y. get_or S (first_slot y) 0) ls i (leaf 0 0) 0 at.0 ∙ run_pointer st s (first_slot x) l (first_small i at.0) near in
       let one = times_at (pointers (block blocks head) ls) i (omega (arith, at.0, length-map ls (λ y. get_or S (first_slot y) 0))) in
       omega (arith, subst (λ b. 1 ≤ times b (pointers (block blocks head) ls)) same one)
 

@@ -2,6 +2,7 @@ ghost use Rattle.std.specs.Prelude.{◌≡◌, ◌+◌, ◌*◌, ◌-◌, ◌^�
 ghost use Rattle.records.specs.Records.{is_record, key_of};
 ghost use Rattle.shape.specs.Shapes.{prefix_of};
 ghost use Rattle.index.specs.Stored.{prefix_at};
+ghost use Rattle.layout.specs.Laid.{Halves};
 
 use buckets::Prefix;
 use kinds::KeyKind;
@@ -29,7 +30,7 @@ impl Part {
 
     // The low half and the high half, unless it is one slot.
     pub fn halves(self) -> Option<(Part, Part)>
-        ensures { MatchOption result (self.room ≡ 0) (λ p. (p.0.room + 1 ≡ self.room) × (p.1.room + 1 ≡ self.room) × (p.0.prefix ≡ 2 * self.prefix) × (p.1.prefix ≡ 2 * self.prefix + 1)) }
+        ensures { MatchOption result (self.room ≡ 0) (λ p. Halves self p.0 p.1) }
     {
         let room = self.room.checked_sub(1)?;
         let prefix = 2 * self.prefix;
