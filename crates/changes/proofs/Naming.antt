@@ -20,6 +20,7 @@ use Rattle.layout.proofs.Splits.{slot_prefix}
 use Rattle.plans.specs.declared.plan.Plan.{Plan}
 use Rattle.plans.specs.Planned.{Planned, Spare}
 use Rattle.plans.proofs.Merges.{run_pointer}
+use Rattle.changes.specs.Making.{Pending}
 use Rattle.changes.specs.Relaying.{Relaid, Lays}
 use Rattle.changes.proofs.Relays.{leaves_within}
 
@@ -56,13 +57,11 @@ module _ (kind : Kind) (blocks : Blocks) (head : ℕ) (old : List (List ℕ)) (s
       let near : first_slot x / 2 ^ room_at kind old s ≡ s / 2 ^ room_at kind old s
       = subst (λ y. first_slot y / 2 ^ room_at kind old s ≡ s / 2 ^ room_at kind old s) (sym at.1) (first_within (room_at kind old s) (s / 2 ^ room_at kind old s)) in
       let same : get_or (pointers (block blocks head) ls) i 0 ≡ get_or S s 0
-      = get_or-map (λ y. get_or S (first_slot y) 0) ls i (leaf 0 0) 0 at.0 ∙ run_pointer kind blocks head old st s (first_slot x) l (first_small i at.0) near in
+      = get_or-map (λ y. get_or S (first_slot y) 0) ls i (leaf 0 0) 0 at.0 ∙ run_pointer st s (first_slot x) l (first_small i at.0) near in
       let one = times_at (pointers (block blocks head) ls) i (omega (arith, at.0, length-map ls (λ y. get_or S (first_slot y) 0))) in
       omega (arith, subst (λ b. 1 ≤ times b (pointers (block blocks head) ls)) same one)
 
-module _ (kind : Kind) (blocks : Blocks) (head : ℕ) (old new : List (List ℕ)) (plan : Plan) (spare : List ℕ)
-    (st : Stored kind blocks head old) (pl : Planned kind (block blocks head) old new plan) (sp : Spare kind blocks head old spare)
-    (enough : array_vec_len plan.laid ≤ 1 + length spare) where
+module _ {kind : Kind} {blocks : Blocks} {head : ℕ} {old new : List (List ℕ)} {plan : Plan} {spare : List ℕ} (due : Pending kind blocks head old new plan spare) where
   abbrev K : ℕ
   K = plan.room
 
@@ -79,37 +78,37 @@ module _ (kind : Kind) (blocks : Blocks) (head : ℕ) (old new : List (List ℕ)
   L = leaves (by_key kind) plan.room (plan.slot / 2 ^ plan.room) new
 
   pub long_new : array_vec_len plan.laid ≡ length L
-  long_new = pl.laid.long ∙ sym (length-leaves (by_key kind) K p new)
+  long_new = due.planned.laid.long ∙ sym (length-leaves (by_key kind) K p new)
 
   pub some_laid : 1 ≤ array_vec_len plan.laid
   some_laid = omega (arith, (leaf_at (by_key kind) K p new plan.slot (leaf 0 0) refl).0, long_new)
 
   pub lays : Lays kind new K p ns plan.laid.items
   lays = record {
-    deep = pl.deep;
-    small = slot_prefix plan.slot plan.room pl.slot pl.deep;
-    laid = pl.laid.blocks;
+    deep = due.planned.deep;
+    small = slot_prefix plan.slot plan.room due.planned.slot due.planned.deep;
+    laid = due.planned.laid.blocks;
     enough = omega arith;
   }
 
   pub old_room : room_at kind old plan.slot ≤ K
   old_room = ⊎_elim
       (λ (l : K < room_at kind old plan.slot).
-      absurd (both_ways _ (pl.heavy (room_at kind old plan.slot) l (room_le (by_key kind) 7 old plan.slot)).0 (room_light (by_key kind) 7 old plan.slot (omega arith))))
+      absurd (both_ways _ (due.planned.heavy (room_at kind old plan.slot) l (room_le (by_key kind) 7 old plan.slot)).0 (room_light (by_key kind) 7 old plan.slot (omega arith))))
       (λ (l : room_at kind old plan.slot ≤ K). l)
       (cases_lt K (room_at kind old plan.slot))
 
   -- a slot under the prefix: its room is that of its new bucket
   pub room_on : (s : ℕ) → s / 2 ^ K ≡ p → room_at kind new s ≡ room (by_key kind) K new s
-  room_on s e = room_skip (by_key kind) K 7 new s plan.slot pl.deep (λ j a b. (pl.heavy j a b).1) e
+  room_on s e = room_skip (by_key kind) K 7 new s plan.slot due.planned.deep (λ j a b. (due.planned.heavy j a b).1) e
 
   -- a slot elsewhere keeps its bucket
   pub room_off : (s : ℕ) → (s / 2 ^ K ≡ p → ⊥) → room_at kind old s ≡ room_at kind new s
-  room_off s ne = (bucket-off (by_key kind) plan.slot old new pl.differ K 7 s pl.heavy ne).0
+  room_off s ne = (bucket-off (by_key kind) plan.slot old new due.planned.differ K 7 s due.planned.heavy ne).0
 
   pub bucket_same : (s : ℕ) → (s / 2 ^ K ≡ p → ⊥) → bucket_for kind old s ≡ bucket_for kind new s
   bucket_same s ne =
-      let b = bucket-off (by_key kind) plan.slot old new pl.differ K 7 s pl.heavy ne in
+      let b = bucket-off (by_key kind) plan.slot old new due.planned.differ K 7 s due.planned.heavy ne in
       let R = room_at kind old s in
       ap (bucket_bytes (prefix_at R (s / 2 ^ R))) b.1 ∙ ap (λ n. bucket_at kind new n (s / 2 ^ n)) b.0
 
@@ -138,22 +137,22 @@ module _ (kind : Kind) (blocks : Blocks) (head : ℕ) (old new : List (List ℕ)
     pub apart : (i j : ℕ) → i < j → j < array_vec_len plan.laid → get_or ns i 0 ≡ get_or ns j 0 → ⊥
     apart i zero l b e = absurd (omega arith)
     apart zero (suc j) l b e =
-        let n = pointer_home kind blocks head old st plan.slot pl.slot in
-        let m = times_at spare j (omega (arith, enough)) in
-        let z : get_or S plan.slot 0 ≡ get_or spare j 0 = sym pl.number ∙ e in
-        omega (arith, m, subst (λ x. 1 ≤ times x (home kind blocks head old)) z n, sp.apart (get_or spare j 0))
-    apart (suc i) (suc j) l b e = omega (arith, times_twice spare i j (omega arith) (omega (arith, enough)) e, sp.apart (get_or spare j 0))
+        let n = pointer_home kind blocks head old due.stored plan.slot due.planned.slot in
+        let m = times_at spare j (omega arith) in
+        let z : get_or S plan.slot 0 ≡ get_or spare j 0 = sym due.planned.number ∙ e in
+        omega (arith, m, subst (λ x. 1 ≤ times x (home kind blocks head old)) z n, due.spared.apart (get_or spare j 0))
+    apart (suc i) (suc j) l b e = omega (arith, times_twice spare i j (omega arith) (omega arith) e, due.spared.apart (get_or spare j 0))
 
     -- none is the bucket of a slot elsewhere
     pub elsewhere : (i t : ℕ) → i < array_vec_len plan.laid → t < 128 → (t / 2 ^ K ≡ p → ⊥) → get_or ns i 0 ≡ get_or S t 0 → ⊥
     elsewhere zero t l lt ne e =
-        let z : get_or S t 0 ≡ get_or S plan.slot 0 = sym e ∙ pl.number in
-        let r = st.runs plan.slot pl.slot t lt in
+        let z : get_or S t 0 ≡ get_or S plan.slot 0 = sym e ∙ due.planned.number in
+        let r = due.stored.runs plan.slot due.planned.slot t lt in
         ne (prefix_up (room_at kind old plan.slot) K t plan.slot old_room (eqb-true _ _ (sym r ∙ eq-eqb _ _ z)))
     elsewhere (suc i) t l lt ne e =
-        let m = times_at spare i (omega (arith, enough)) in
-        let n = pointer_home kind blocks head old st t lt in
-        omega (arith, m, subst (λ x. 1 ≤ times x (home kind blocks head old)) (sym e) n, sp.apart (get_or spare i 0))
+        let m = times_at spare i (omega arith) in
+        let n = pointer_home kind blocks head old due.stored t lt in
+        omega (arith, m, subst (λ x. 1 ≤ times x (home kind blocks head old)) (sym e) n, due.spared.apart (get_or spare i 0))
 
     pub place-small : (s : ℕ) → s / 2 ^ K ≡ p → place_of (by_key kind) K p new s < array_vec_len plan.laid
     place-small s e = omega (arith, (leaf_at (by_key kind) K p new s (leaf 0 0) e).0, long_new)
@@ -197,7 +196,7 @@ module _ (kind : Kind) (blocks : Blocks) (head : ℕ) (old new : List (List ℕ)
         let far : t / 2 ^ R ≡ s / 2 ^ R → ⊥ = λ z. ⊎_elim
         (λ (l : K < R).
         let up : s / 2 ^ R ≡ plan.slot / 2 ^ R = sym z ∙ prefix_up K R t plan.slot (omega arith) et in
-        both_ways _ (pl.heavy R l (room_le (by_key kind) 7 new s)).1 (subst (λ q. is_light (by_key kind) R q new ≡ true) up (room_light (by_key kind) 7 new s (omega arith))))
+        both_ways _ (due.planned.heavy R l (room_le (by_key kind) 7 new s)).1 (subst (λ q. is_light (by_key kind) R q new ≡ true) up (room_light (by_key kind) 7 new s (omega arith))))
         (λ (l : R ≤ K). nsn (prefix_up R K s t l (sym z) ∙ et))
         (cases_lt K R) in
         ne_eqb _ _ (λ z. elsewhere (place_of (by_key kind) K p new t) s (place-small t et) ls nsn (sym (pointer-on t lt et) ∙ z ∙ (rl.off s ls nsn).0))
@@ -209,7 +208,7 @@ module _ (kind : Kind) (blocks : Blocks) (head : ℕ) (old new : List (List ℕ)
         (λ (en : s / 2 ^ K ≡ p → ⊥). ⊎_elim
         (λ (et : t / 2 ^ K ≡ p). run-back s t ls lt en et)
         (λ (nt : t / 2 ^ K ≡ p → ⊥).
-        ap (λ n. eqb n (get_or slots' s 0)) (rl.off t lt nt).0 ∙ ap (λ n. eqb (get_or S t 0) n) (rl.off s ls en).0 ∙ st.runs s ls t lt ∙ ap (λ n. together n s t) (room_off s en))
+        ap (λ n. eqb n (get_or slots' s 0)) (rl.off t lt nt).0 ∙ ap (λ n. eqb (get_or S t 0) n) (rl.off s ls en).0 ∙ due.stored.runs s ls t lt ∙ ap (λ n. together n s t) (room_off s en))
         (cases_eq (t / 2 ^ K) p))
         (cases_eq (s / 2 ^ K) p)
 

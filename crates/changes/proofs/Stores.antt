@@ -17,19 +17,28 @@ use Rattle.layout.specs.Laid.{leaf_block}
 use Rattle.plans.specs.declared.plan.Plan.{Plan}
 use Rattle.plans.specs.Planned.{Planned, Spare, Changed}
 use Rattle.plans.proofs.Merges.{times-append}
-use Rattle.changes.specs.Making.{Headed, written}
+use Rattle.changes.specs.Making.{Pending, Headed, written}
 use Rattle.changes.proofs.Relays.{leaves_within}
 use Rattle.changes.proofs.Writes.{length-written, written_at, written_off}
 use Rattle.changes.proofs.Naming.{times_at, pointer_home, long_new, some_laid, apart, bucket_same, pointer-on, elsewhere, place-small, leaf-of, runs-new}
 
 -- the first ones of spare blocks are spare
-pub spare_taken : (kind : Kind) (blocks : Blocks) (head : ℕ) (old : List (List ℕ)) (spare : List ℕ) (n : ℕ) → Spare kind blocks head old spare → Spare kind blocks head old (take n spare)
+spare_taken : (kind : Kind) (blocks : Blocks) (head : ℕ) (old : List (List ℕ)) (spare : List ℕ) (n : ℕ) → Spare kind blocks head old spare → Spare kind blocks head old (take n spare)
 spare_taken kind blocks head old spare n sp = record {
   apart = λ b. omega (arith, sp.apart b, ap (times b) (take-append-drop n spare), times-append b (take n spare) (drop n spare));
   there = λ i l.
       let short = length-take n spare in
       let same : get_or (take n spare) i 0 ≡ get_or spare i 0 = get_or-take n spare i 0 (omega arith) in
       omega (arith, same, sp.there i (omega arith));
+}
+
+pub pending_taken : (kind : Kind) (blocks : Blocks) (head : ℕ) (old new : List (List ℕ)) (plan : Plan) (spare : List ℕ) → Stored kind blocks head old → Planned kind (block blocks head) old new plan → Spare kind blocks head old spare
+    → array_vec_len plan.laid - 1 ≤ length spare → Pending kind blocks head old new plan (take (array_vec_len plan.laid - 1) spare)
+pending_taken kind blocks head old new plan spare st pl sp l = record {
+  stored = st;
+  planned = pl;
+  spared = spare_taken kind blocks head old spare (array_vec_len plan.laid - 1) sp;
+  enough = omega (arith, l, length-take (array_vec_len plan.laid - 1) spare);
 }
 
 -- blocks after a header and some buckets were written
@@ -47,24 +56,22 @@ all_right : {X : Type 0} (P : X → Type 0) (xs ys : List X) → AllByRecursion 
 all_right P [] ys h = h
 all_right P (x ∷ xs) ys h = all_right P xs ys h.1
 
-module _ (kind : Kind) (before : Blocks) (head : ℕ) (old new : List (List ℕ)) (plan : Plan) (spare : List ℕ)
-    (st : Stored kind before head old) (pl : Planned kind (block before head) old new plan) (sp : Spare kind before head old spare)
-    (enough : array_vec_len plan.laid ≤ 1 + length spare) where
+module _ {kind : Kind} {before : Blocks} {head : ℕ} {old new : List (List ℕ)} {plan : Plan} {spare : List ℕ} (due : Pending kind before head old new plan spare) where
   pub there : (i : ℕ) → i < array_vec_len plan.laid → get_or (plan.number ∷ spare) i 0 < length before
-  there zero l = subst (λ n. n < length before) (sym pl.number) (st.within plan.slot pl.slot)
-  there (suc i) l = sp.there i (omega (arith, enough))
+  there zero l = subst (λ n. n < length before) (sym due.planned.number) (due.stored.within plan.slot due.planned.slot)
+  there (suc i) l = due.spared.there i (omega arith)
 
   pub not_head : (i : ℕ) → i < array_vec_len plan.laid → get_or (plan.number ∷ spare) i 0 ≡ head → ⊥
-  not_head zero l e = st.beside plan.slot pl.slot (sym pl.number ∙ e)
+  not_head zero l e = due.stored.beside plan.slot due.planned.slot (sym due.planned.number ∙ e)
   not_head (suc i) l e =
-      let m = times_at spare i (omega (arith, enough)) in
+      let m = times_at spare i (omega arith) in
       let h = eq-eqb head head refl in
-      omega (arith, subst (λ x. 1 ≤ times x spare) e m, ap (λ b. cond {A = ℕ} b 1 0) h, sp.apart head)
+      omega (arith, subst (λ x. 1 ≤ times x spare) e m, ap (λ b. cond {A = ℕ} b 1 0) h, due.spared.apart head)
 
   -- the blocks after buckets and header were written
   module _ (header : List ℕ) (hd : Headed kind (block before head) old new plan spare header) where
     distinct : (i j : ℕ) → i < j → j < length plan.laid.items → get_or (plan.number ∷ spare) i 0 ≡ get_or (plan.number ∷ spare) j 0 → ⊥
-    distinct i j l b e = apart kind before head old new plan spare st pl sp enough (slots header) (rooms kind new) hd.relaid i j l (omega (arith, b)) e
+    distinct i j l b e = apart due (slots header) (rooms kind new) hd.relaid i j l (omega (arith, b)) e
 
     all_there : (i : ℕ) → i < length plan.laid.items → get_or (plan.number ∷ spare) i 0 < length before
     all_there i l = there i (omega arith)
@@ -73,7 +80,7 @@ module _ (kind : Kind) (before : Blocks) (head : ℕ) (old new : List (List ℕ)
     none-head i l e = not_head i (omega arith) e
 
     ns-long : length plan.laid.items ≤ length (plan.number ∷ spare)
-    ns-long = omega (arith, enough)
+    ns-long = omega arith
 
     -- the header block is another
     pub wrote-both : (after : Blocks) → after ≡ set (written before (plan.number ∷ spare) plan.laid.items) head header → Wrote before after head header (plan.number ∷ spare) plan.laid.items
@@ -84,7 +91,7 @@ module _ (kind : Kind) (before : Blocks) (head : ℕ) (old new : List (List ℕ)
         let long = length-written before ns bs in
         record {
           long = ap length e ∙ length-set mid head header ∙ long;
-          top = ap (λ d. block d head) e ∙ get_or-set_same mid head header [] (omega (arith, long, st.inside));
+          top = ap (λ d. block d head) e ∙ get_or-set_same mid head header [] (omega (arith, long, due.stored.inside));
           at = λ i l. ap (λ d. block d (get_or ns i 0)) e ∙ get_or-set_other mid head (get_or ns i 0) header [] (none-head i l) ∙ written_at before ns bs ns-long distinct all_there i l;
           off = λ b nh none. ap (λ d. block d b) e ∙ get_or-set_other mid head b header [] nh ∙ written_off before ns bs b none;
         }
@@ -101,9 +108,8 @@ module _ (kind : Kind) (before : Blocks) (head : ℕ) (old new : List (List ℕ)
           off = λ b nh none. ap (λ d. block d b) e ∙ written_off before ns bs b none;
         }
 
-module _ (kind : Kind) (before after : Blocks) (head : ℕ) (old new : List (List ℕ)) (plan : Plan) (spare header : List ℕ)
-    (st : Stored kind before head old) (pl : Planned kind (block before head) old new plan) (sp : Spare kind before head old spare)
-    (enough : array_vec_len plan.laid ≤ 1 + length spare) (hd : Headed kind (block before head) old new plan spare header)
+module _ {kind : Kind} {before after : Blocks} {head : ℕ} {old new : List (List ℕ)} {plan : Plan} {spare header : List ℕ} (due : Pending kind before head old new plan spare)
+    (hd : Headed kind (block before head) old new plan spare header)
     (w : Wrote before after head header (plan.number ∷ spare) plan.laid.items) where
   abbrev K : ℕ
   K = plan.room
@@ -121,18 +127,18 @@ module _ (kind : Kind) (before after : Blocks) (head : ℕ) (old new : List (Lis
   S' = slots header
 
   on : (s : ℕ) → s < 128 → s / 2 ^ K ≡ p → get_or S' s 0 ≡ get_or ns (place_of (by_key kind) K p new s) 0
-  on = pointer-on kind before head old new plan spare st pl sp enough S' (rooms kind new) hd.relaid
+  on = pointer-on due S' (rooms kind new) hd.relaid
 
   small : (s : ℕ) → s / 2 ^ K ≡ p → place_of (by_key kind) K p new s < array_vec_len plan.laid
-  small = place-small kind before head old new plan spare st pl sp enough S' (rooms kind new) hd.relaid
+  small = place-small due S' (rooms kind new) hd.relaid
 
   off : (s : ℕ) → s < 128 → (s / 2 ^ K ≡ p → ⊥) → get_or S' s 0 ≡ get_or (slots (block before head)) s 0
   off s l ne = (hd.relaid.off s l ne).0
 
   within : (s : ℕ) → s < 128 → get_or S' s 0 < length after
   within s l = ⊎_elim
-      (λ (e : s / 2 ^ K ≡ p). subst (λ n. n < length after) (sym (on s l e)) (omega (arith, there kind before head old new plan spare st pl sp enough (place_of (by_key kind) K p new s) (small s e), w.long)))
-      (λ (ne : s / 2 ^ K ≡ p → ⊥). subst (λ n. n < length after) (sym (off s l ne)) (omega (arith, st.within s l, w.long)))
+      (λ (e : s / 2 ^ K ≡ p). subst (λ n. n < length after) (sym (on s l e)) (omega (arith, there due (place_of (by_key kind) K p new s) (small s e), w.long)))
+      (λ (ne : s / 2 ^ K ≡ p → ⊥). subst (λ n. n < length after) (sym (off s l ne)) (omega (arith, due.stored.within s l, w.long)))
       (cases_eq (s / 2 ^ K) p)
 
   leads : (s : ℕ) → s < 128 → block after (get_or S' s 0) ≡ bucket_for kind new s
@@ -140,34 +146,34 @@ module _ (kind : Kind) (before after : Blocks) (head : ℕ) (old new : List (Lis
       (λ (e : s / 2 ^ K ≡ p).
       let i = place_of (by_key kind) K p new s in
       let li : i < length plan.laid.items = omega (arith, small s e) in
-      let m : i < length L = omega (arith, small s e, (long_new kind before head old new plan spare st pl sp enough)) in
-      ap (block after) (on s l e) ∙ w.at i li ∙ ap (λ bs. get_or bs i []) pl.laid.blocks ∙ get_or-map (leaf_block kind new) L i (leaf 0 0) [] m
-      ∙ ap (leaf_block kind new) (leaf-of kind before head old new plan spare st pl sp enough S' (rooms kind new) hd.relaid s e))
+      let m : i < length L = omega (arith, small s e, (long_new due)) in
+      ap (block after) (on s l e) ∙ w.at i li ∙ ap (λ bs. get_or bs i []) due.planned.laid.blocks ∙ get_or-map (leaf_block kind new) L i (leaf 0 0) [] m
+      ∙ ap (leaf_block kind new) (leaf-of due S' (rooms kind new) hd.relaid s e))
       (λ (ne : s / 2 ^ K ≡ p → ⊥).
       ap (block after) (off s l ne)
-      ∙ w.off (get_or (slots (block before head)) s 0) (st.beside s l)
-      (λ i li z. elsewhere kind before head old new plan spare st pl sp enough S' (rooms kind new) hd.relaid i s (omega (arith, li)) l ne (sym z))
-      ∙ st.leads s l ∙ bucket_same kind before head old new plan spare st pl sp enough s ne)
+      ∙ w.off (get_or (slots (block before head)) s 0) (due.stored.beside s l)
+      (λ i li z. elsewhere due S' (rooms kind new) hd.relaid i s (omega (arith, li)) l ne (sym z))
+      ∙ due.stored.leads s l ∙ bucket_same due s ne)
       (cases_eq (s / 2 ^ K) p)
 
   beside : (s : ℕ) → s < 128 → get_or S' s 0 ≡ head → ⊥
   beside s l z = ⊎_elim
-      (λ (e : s / 2 ^ K ≡ p). not_head kind before head old new plan spare st pl sp enough (place_of (by_key kind) K p new s) (small s e) (sym (on s l e) ∙ z))
-      (λ (ne : s / 2 ^ K ≡ p → ⊥). st.beside s l (sym (off s l ne) ∙ z))
+      (λ (e : s / 2 ^ K ≡ p). not_head due (place_of (by_key kind) K p new s) (small s e) (sym (on s l e) ∙ z))
+      (λ (ne : s / 2 ^ K ≡ p → ⊥). due.stored.beside s l (sym (off s l ne) ∙ z))
       (cases_eq (s / 2 ^ K) p)
 
   pub stored_new : Stored kind after head new
   stored_new =
       let h = w.top in
       record {
-        sorted = pl.sorted;
-        held = pl.held;
-        countable = pl.countable;
-        inside = omega (arith, st.inside, w.long);
+        sorted = due.planned.sorted;
+        held = due.planned.held;
+        countable = due.planned.countable;
+        inside = omega (arith, due.stored.inside, w.long);
         header = subst (λ x. Encodes (length new) (deepest (rooms kind new)) (slots x) x) (sym h) hd.bytes;
         within = subst (λ x. (s : ℕ) → s < 128 → get_or (slots x) s 0 < length after) (sym h) within;
         leads = subst (λ x. (s : ℕ) → s < 128 → block after (get_or (slots x) s 0) ≡ bucket_for kind new s) (sym h) leads;
-        runs = subst (λ x. (s : ℕ) → s < 128 → RunAt (slots x) (room_at kind new s) s) (sym h) (runs-new kind before head old new plan spare st pl sp enough S' (rooms kind new) hd.relaid);
+        runs = subst (λ x. (s : ℕ) → s < 128 → RunAt (slots x) (room_at kind new s) s) (sym h) (runs-new due S' (rooms kind new) hd.relaid);
         beside = subst (λ x. (s : ℕ) → s < 128 → get_or (slots x) s 0 ≡ head → ⊥) (sym h) beside;
       }
 
@@ -186,9 +192,9 @@ module _ (kind : Kind) (before after : Blocks) (head : ℕ) (old new : List (Lis
 
   new_pointers : AllByRecursion Small L → pointers header L ≡ take (array_vec_len plan.laid) ns
   new_pointers sm =
-      let ll = long_new kind before head old new plan spare st pl sp enough in
+      let ll = long_new due in
       let f = λ (x : Leaf). get_or (slots header) (first_slot x) 0 in
-      let long : length (pointers header L) ≡ length (take (array_vec_len plan.laid) ns) = length-map L f ∙ sym ll ∙ omega (arith, length-take (array_vec_len plan.laid) ns, enough) in
+      let long : length (pointers header L) ≡ length (take (array_vec_len plan.laid) ns) = length-map L f ∙ sym ll ∙ omega (arith, length-take (array_vec_len plan.laid) ns, due.enough) in
       ext_get_or 0 (pointers header L) (take (array_vec_len plan.laid) ns) long
       (λ i l.
       let m : i < length L = omega (arith, l, length-map L f) in
@@ -207,8 +213,8 @@ module _ (kind : Kind) (before after : Blocks) (head : ℕ) (old new : List (Lis
 
   pub passed : (b : ℕ) → times b (home kind after head new) + times b plan.given.items ≡ times b (home kind before head old) + times b (take (array_vec_len plan.laid - 1) spare)
   passed b =
-      let ar = around (by_key kind) plan.slot old new pl.differ K 7 pl.deep pl.heavy in
-      let z = slot_small plan.slot pl.slot in
+      let ar = around (by_key kind) plan.slot old new due.planned.differ K 7 due.planned.deep due.planned.heavy in
+      let z = slot_small plan.slot due.planned.slot in
       let olds : leaves (by_key kind) 7 0 old ≡ ar.left ++ (leaves (by_key kind) K p old ++ ar.right) = ap (λ n. leaves (by_key kind) 7 n old) (sym z) ∙ ar.old in
       let news : leaves (by_key kind) 7 0 new ≡ ar.left ++ (L ++ ar.right) = ap (λ n. leaves (by_key kind) 7 n new) (sym z) ∙ ar.new in
       let all = subst (AllByRecursion Small) news (leaves_within (by_key kind) new 7 0) in
@@ -226,8 +232,8 @@ module _ (kind : Kind) (before after : Blocks) (head : ℕ) (old new : List (Lis
         ap (times b) (same_pointers ar.left sl ar.left-off),
         ap (times b) (same_pointers ar.right sr ar.right-off),
         ap (times b) (new_pointers sm),
-        times_first b (array_vec_len plan.laid) (some_laid kind before head old new plan spare st pl sp enough),
-        pl.given b,
+        times_first b (array_vec_len plan.laid) (some_laid due),
+        due.planned.given b,
       )
 
   pub changed : Changed kind before after head old new (take (array_vec_len plan.laid - 1) spare) plan.given.items
@@ -243,9 +249,9 @@ module _ (kind : Kind) (before after : Blocks) (head : ℕ) (old new : List (Lis
 
       taken_not : (b : ℕ) → times b (home kind before head old) + times b (take (array_vec_len plan.laid - 1) spare) ≡ 0 → (i : ℕ) → i < array_vec_len plan.laid → b ≡ get_or ns i 0 → ⊥
       taken_not b none zero l e =
-          let n = pointer_home kind before head old st plan.slot pl.slot in
-          omega (arith, none, subst (λ x. 1 ≤ times x (home kind before head old)) (sym (e ∙ pl.number)) n)
+          let n = pointer_home kind before head old due.stored plan.slot due.planned.slot in
+          omega (arith, none, subst (λ x. 1 ≤ times x (home kind before head old)) (sym (e ∙ due.planned.number)) n)
       taken_not b none (suc i) l e =
-          let m = times_at (take (array_vec_len plan.laid - 1) spare) i (omega (arith, length-take (array_vec_len plan.laid - 1) spare, enough, l)) in
+          let m = times_at (take (array_vec_len plan.laid - 1) spare) i (omega (arith, length-take (array_vec_len plan.laid - 1) spare, due.enough, l)) in
           let same : get_or (take (array_vec_len plan.laid - 1) spare) i 0 ≡ b = get_or-take (array_vec_len plan.laid - 1) spare i 0 (omega arith) ∙ sym e in
           omega (arith, none, subst (λ x. 1 ≤ times x (take (array_vec_len plan.laid - 1) spare)) same m)

@@ -5,9 +5,9 @@ use Rattle.kinds.specs.Kinds.{Kind}
 use Rattle.header.specs.Headers.{Encodes, deepest}
 use Rattle.index.specs.declared.fault.Fault.{Fault}
 use Rattle.index.specs.declared.fault.Fault.TheVariants.{NoRoom}
-use Rattle.index.specs.Stored.{Blocks, slots, rooms}
+use Rattle.index.specs.Stored.{Blocks, block, slots, rooms, Stored}
 use Rattle.plans.specs.declared.plan.Plan.{Plan}
-use Rattle.plans.specs.Planned.{Changed}
+use Rattle.plans.specs.Planned.{Planned, Spare, Changed}
 use Rattle.changes.specs.Relaying.{Relaid}
 
 -- blocks after each of some is written to its number
@@ -21,6 +21,13 @@ pub record Ready (blocks : Blocks) (allowed head : ℕ) (numbers : List ℕ) : T
   pub writes : length numbers + 1 ≤ allowed
   pub header : head < length blocks
   pub there : (i : ℕ) → i < length numbers → slice_index numbers i < length blocks
+
+-- a plan for an index that blocks store, with spare blocks enough for its buckets
+pub record Pending (kind : Kind) (blocks : Blocks) (head : ℕ) (old new : List (List ℕ)) (plan : Plan) (spare : List ℕ) : Type 0 where
+  pub stored : Stored kind blocks head old
+  pub planned : Planned kind (block blocks head) old new plan
+  pub spared : Spare kind blocks head old spare
+  pub enough : array_vec_len plan.laid ≤ 1 + length spare
 
 -- the header block after a plan: all slots under its prefix name its buckets
 pub record Headed (kind : Kind) (header : List ℕ) (old new : List (List ℕ)) (plan : Plan) (spare after : List ℕ) : Type 0 where

@@ -1,10 +1,8 @@
-ghost use Rattle.std.specs.Prelude.{◌≡◌, ℕ, ◌+◌, ◌≤◌, List, ◌∷◌, length, MatchOption};
-ghost use Rattle.arrayvec.specs.ArrayVec.{array_vec_len};
+ghost use Rattle.std.specs.Prelude.{◌≡◌, ℕ, List, ◌∷◌, MatchOption};
 ghost use Rattle.kinds.specs.Kinds.{Kind};
 ghost use Rattle.header.specs.Headers.{Encodes};
-ghost use Rattle.index.specs.Stored.{Blocks, Stored, block};
-ghost use Rattle.plans.specs.Planned.{Planned, Spare};
-ghost use Rattle.changes.specs.Making.{Headed};
+ghost use Rattle.index.specs.Stored.{Blocks, block};
+ghost use Rattle.changes.specs.Making.{Pending, Headed};
 
 use crate::table::Table;
 use header::{Header, decode, encode, set_count};
@@ -21,7 +19,7 @@ fn recount(plan: &Plan) -> [u8; 512]
 
 // The header block where a plan changes prefixes.
 fn reshape(plan: &Plan, numbers: &[u16]) -> Option<[u8; 512]>
-    ensures { (kind : Kind) (blocks : Blocks) (head : ℕ) (old new : List (List ℕ)) (spare : List ℕ) → Stored kind blocks head old → Planned kind (block blocks head) old new plan.now → Spare kind blocks head old spare → array_vec_len plan.now.laid ≤ 1 + length spare → numbers.now ≡ plan.now.number ∷ spare → MatchOption result ⊥ (Headed kind (block blocks head) old new plan.now spare) }
+    ensures { (kind : Kind) (blocks : Blocks) (head : ℕ) (old new : List (List ℕ)) (spare : List ℕ) → Pending kind blocks head old new plan.now spare → numbers.now ≡ plan.now.number ∷ spare → MatchOption result ⊥ (Headed kind (block blocks head) old new plan.now spare) }
 {
     let old = decode(&plan.header)?;
     let mut table = Table {
@@ -35,7 +33,7 @@ fn reshape(plan: &Plan, numbers: &[u16]) -> Option<[u8; 512]>
 
 // The header block after a plan, whose buckets go into blocks of these numbers.
 pub(crate) fn head_after(plan: &Plan, numbers: &[u16]) -> Option<[u8; 512]>
-    ensures { (kind : Kind) (blocks : Blocks) (head : ℕ) (old new : List (List ℕ)) (spare : List ℕ) → Stored kind blocks head old → Planned kind (block blocks head) old new plan.now → Spare kind blocks head old spare → array_vec_len plan.now.laid ≤ 1 + length spare → numbers.now ≡ plan.now.number ∷ spare → MatchOption result ⊥ (Headed kind (block blocks head) old new plan.now spare) }
+    ensures { (kind : Kind) (blocks : Blocks) (head : ℕ) (old new : List (List ℕ)) (spare : List ℕ) → Pending kind blocks head old new plan.now spare → numbers.now ≡ plan.now.number ∷ spare → MatchOption result ⊥ (Headed kind (block blocks head) old new plan.now spare) }
 {
     if plan.laid.len() == 1 && plan.room == plan.start {
         Some(recount(plan))

@@ -5,7 +5,7 @@
 mod figure;
 
 use changes::{Change, create, put, remove};
-use figure::{Figure, measure};
+use figure::measure;
 use image::ImageBuf;
 use index::Fault;
 use kinds::StraightNumbers;
@@ -90,22 +90,13 @@ fn put_key(image: &mut ImageBuf, key: u32) -> Result<Change, Fault> {
 
 fn tell_change(rt: &HostRuntime, change: Change) -> anyhow::Result<()> {
     let taken = change.taken;
-    let given = change.given.as_slice().len();
+    let given = change.given.len();
     Ok(print!(rt; "{taken} blocks taken, {given} given up; ")?)
 }
 
 fn tell(rt: &HostRuntime, image: &ImageBuf) -> anyhow::Result<()> {
     match measure(image, HEAD) {
-        Some(
-            Figure {
-                records,
-                depth,
-                buckets,
-                empty,
-            },
-        ) => Ok(println!(rt;
-            "{records} records, depth {depth}, buckets {buckets}, {empty} of them empty"
-        )?),
+        Some(figure) => Ok(println!(rt; "{figure}")?),
         None => Ok(println!(rt; "no index")?),
     }
 }

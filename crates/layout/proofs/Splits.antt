@@ -23,7 +23,8 @@ use Rattle.shape.proofs.Cuts.{Up, cut_low, cut_high}
 use Rattle.index.specs.Stored.{prefix_at}
 use Rattle.index.proofs.Reading.{load-sum, sorted_under}
 use Rattle.arrayvec.specs.ArrayVec.{array_vec_len, Extends}
-use Rattle.layout.specs.Laid.{Buckets, span, leaf_block, LaidBehind, Unlaid}
+use Rattle.layout.specs.declared.part.Part.{Part}
+use Rattle.layout.specs.Laid.{Buckets, Halves, span, leaf_block, LaidBehind, Unlaid}
 
 -- the first slot of a prefix, at the top of 32 bits
 pub top_is : (k p : ℕ) → p * 2 ^ (25 + k) ≡ 33554432 * (p * 2 ^ k)
@@ -88,106 +89,124 @@ module _ (kind : Kind) (ys : List (List ℕ)) where
   pub dead_end : (p : ℕ) (xs : List (List ℕ)) (old : Buckets) → xs ≡ under (by_key kind) 0 p ys → leb (load xs) 504 ≡ false → Unlaid kind ys 0 p old
   dead_end p xs old e f room h = omega (arith, leb-false _ _ (sym (light_is 0 p xs e) ∙ f), held_here (by_key kind) ys p h)
 
-  -- a heavy prefix is split into its halves
-  module _ (K P k q k' q' : ℕ) (z : k + 1 ≡ K) (z' : k' + 1 ≡ K) (w : q ≡ 2 * P) (w' : q' ≡ 2 * P + 1) (xs : List (List ℕ)) (e : xs ≡ under (by_key kind) K P ys) where
-    above : suc k ≡ K
-    above = omega arith
+  module _ {part lo hi : Part} (hv : Halves part lo hi) where
+    abbrev K : ℕ
+    K = part.room
 
-    pub as_heavy : xs ≡ under (by_key kind) (suc k) P ys
-    as_heavy = subst (λ j. xs ≡ under (by_key kind) j P ys) (sym above) e
+    abbrev P : ℕ
+    P = part.prefix
 
-    module _ (f : leb (load xs) 504 ≡ false) where
-      abbrev Splits : ℕ → ℕ → ℕ → ℕ → Type 0
-      Splits K q k' q' =
-          (leaves (by_key kind) K P ys ≡ leaves (by_key kind) k q ys ++ leaves (by_key kind) k' q' ys)
-          × (Held (by_key kind) K P ys → Held (by_key kind) k q ys × Held (by_key kind) k' q' ys)
-          × (Held (by_key kind) k q ys → Held (by_key kind) k' q' ys → Held (by_key kind) K P ys)
+    abbrev k : ℕ
+    k = lo.room
 
-      splits : Splits K q k' q'
-      splits =
-          let same : k ≡ k' = omega arith in
-          subst (λ j. Splits j q k' q') above (subst (λ n. Splits (suc k) n k' q') (sym w) (subst (λ j. Splits (suc k) (2 * P) j q') same (subst (Splits (suc k) (2 * P) k) (sym w')
-          (leaves_heavy (by_key kind) k P ys (sym (light_is (suc k) P xs as_heavy) ∙ f), λ h. (held_low (by_key kind) ys k P h, held_high (by_key kind) ys k P h), λ l h. held_both (by_key kind) ys k P l h))))
+    abbrev q : ℕ
+    q = lo.prefix
 
-      two : buckets (by_key kind) K P ys ≡ buckets (by_key kind) k q ys + buckets (by_key kind) k' q' ys
-      two =
-          let A = leaves (by_key kind) k q ys in
-          let B = leaves (by_key kind) k' q' ys in
-          omega (arith, length-leaves (by_key kind) K P ys, ap length splits.0, length-append A B, length-leaves (by_key kind) k q ys, length-leaves (by_key kind) k' q' ys)
+    abbrev k' : ℕ
+    k' = hi.room
 
-      pub low_unlaid : (old : Buckets) → Unlaid kind ys k q old → Unlaid kind ys K P old
-      low_unlaid old none room h = none (omega (arith, two)) (splits.1 h).0
+    abbrev q' : ℕ
+    q' = hi.prefix
 
-      module _ (old mid : Buckets) (low : LaidBehind kind ys k q old mid) where
-        pub high_unlaid : Unlaid kind ys k' q' mid → Unlaid kind ys K P old
-        high_unlaid none room h = none (omega (arith, two, low.longer)) (splits.1 h).1
+    -- a heavy prefix is split into its halves
+    module _ {xs : List (List ℕ)} (e : xs ≡ under (by_key kind) K P ys) where
+      above : suc k ≡ K
+      above = omega arith
 
-        pub both_behind : (new : Buckets) → LaidBehind kind ys k' q' mid new → LaidBehind kind ys K P old new
-        both_behind new high =
+      pub as_heavy : xs ≡ under (by_key kind) (suc k) P ys
+      as_heavy = subst (λ j. xs ≡ under (by_key kind) j P ys) (sym above) e
+
+      module _ (f : leb (load xs) 504 ≡ false) where
+        abbrev Splits : ℕ → ℕ → ℕ → ℕ → Type 0
+        Splits K q k' q' =
+            (leaves (by_key kind) K P ys ≡ leaves (by_key kind) k q ys ++ leaves (by_key kind) k' q' ys)
+            × (Held (by_key kind) K P ys → Held (by_key kind) k q ys × Held (by_key kind) k' q' ys)
+            × (Held (by_key kind) k q ys → Held (by_key kind) k' q' ys → Held (by_key kind) K P ys)
+
+        splits : Splits K q k' q'
+        splits =
+            let same : k ≡ k' = omega arith in
+            subst (λ j. Splits j q k' q') above (subst (λ n. Splits (suc k) n k' q') (sym hv.low_prefix) (subst (λ j. Splits (suc k) (2 * P) j q') same (subst (Splits (suc k) (2 * P) k) (sym hv.high_prefix)
+            (leaves_heavy (by_key kind) k P ys (sym (light_is (suc k) P xs as_heavy) ∙ f), λ h. (held_low (by_key kind) ys k P h, held_high (by_key kind) ys k P h), λ l h. held_both (by_key kind) ys k P l h))))
+
+        two : buckets (by_key kind) K P ys ≡ buckets (by_key kind) k q ys + buckets (by_key kind) k' q' ys
+        two =
             let A = leaves (by_key kind) k q ys in
             let B = leaves (by_key kind) k' q' ys in
-            record {
-              held = splits.2 low.held high.held;
-              blocks = high.blocks ∙ ap (λ zs. zs ++ map (leaf_block kind ys) B) low.blocks ∙ append_assoc old.items (map (leaf_block kind ys) A) (map (leaf_block kind ys) B)
-                  ∙ ap (λ zs. old.items ++ zs) (sym (map-append (leaf_block kind ys) A B) ∙ ap (map (leaf_block kind ys)) (sym splits.0));
-              longer = omega (arith, high.longer, low.longer, two);
-            }
+            omega (arith, length-leaves (by_key kind) K P ys, ap length splits.0, length-append A B, length-leaves (by_key kind) k q ys, length-leaves (by_key kind) k' q' ys)
 
-  -- the records of a heavy prefix, cut where the low half ends
-  module _ (K p k q k' q' : ℕ) (z : k + 1 ≡ K) (z' : k' + 1 ≡ K) (w : q ≡ 2 * p) (w' : q' ≡ 2 * p + 1)
-      (s : Sorted kind ys) (rs : List (List ℕ)) (from to middle : ℕ) (e₀ : span from to rs ≡ under (by_key kind) K p ys)
-      (a : from ≤ middle) (b : middle ≤ to) (c : to ≤ length rs)
-      (low₀ : (i : ℕ) → from ≤ i → i < middle → is_record (get_or rs i []) ≡ true → prefix_of k (kind.hash (key_of (get_or rs i []))) ≡ q)
-      (next₀ : middle < to → is_record (get_or rs middle []) ≡ true → prefix_of k (kind.hash (key_of (get_or rs middle []))) ≡ q → ⊥) where
-    e : span from to rs ≡ under (by_key kind) (suc k) p ys
-    e = as_heavy K p k q k' q' z z' w w' (span from to rs) e₀
+        pub low_unlaid : (old : Buckets) → Unlaid kind ys k q old → Unlaid kind ys K P old
+        low_unlaid old none room h = none (omega (arith, two)) (splits.1 h).0
 
-    low : (i : ℕ) → from ≤ i → i < middle → is_record (get_or rs i []) ≡ true → prefix_of k (kind.hash (key_of (get_or rs i []))) ≡ 2 * p
-    low i l m r = low₀ i l m r ∙ w
+        module _ (old mid : Buckets) (low : LaidBehind kind ys k q old mid) where
+          pub high_unlaid : Unlaid kind ys k' q' mid → Unlaid kind ys K P old
+          high_unlaid none room h = none (omega (arith, two, low.longer)) (splits.1 h).1
 
-    next : middle < to → is_record (get_or rs middle []) ≡ true → prefix_of k (kind.hash (key_of (get_or rs middle []))) ≡ 2 * p → ⊥
-    next l r h = next₀ l r (h ∙ sym w)
+          pub both_behind : (new : Buckets) → LaidBehind kind ys k' q' mid new → LaidBehind kind ys K P old new
+          both_behind new high =
+              let A = leaves (by_key kind) k q ys in
+              let B = leaves (by_key kind) k' q' ys in
+              record {
+                held = splits.2 low.held high.held;
+                blocks = high.blocks ∙ ap (λ zs. zs ++ map (leaf_block kind ys) B) low.blocks ∙ append_assoc old.items (map (leaf_block kind ys) A) (map (leaf_block kind ys) B)
+                    ∙ ap (λ zs. old.items ++ zs) (sym (map-append (leaf_block kind ys) A B) ∙ ap (map (leaf_block kind ys)) (sym splits.0));
+                longer = omega (arith, high.longer, low.longer, two);
+              }
 
-    run-sorted : Sorted kind (span from to rs)
-    run-sorted = subst (Sorted kind) (sym e) (sorted_under kind (suc k) p ys s)
+    -- the records of a heavy prefix, cut where the low half ends
+    module _ (s : Sorted kind ys) (rs : List (List ℕ)) (from to middle : ℕ) (e₀ : span from to rs ≡ under (by_key kind) K P ys)
+        (a : from ≤ middle) (b : middle ≤ to) (c : to ≤ length rs)
+        (low₀ : (i : ℕ) → from ≤ i → i < middle → is_record (get_or rs i []) ≡ true → prefix_of k (kind.hash (key_of (get_or rs i []))) ≡ q)
+        (next₀ : middle < to → is_record (get_or rs middle []) ≡ true → prefix_of k (kind.hash (key_of (get_or rs middle []))) ≡ q → ⊥) where
+      e : span from to rs ≡ under (by_key kind) (suc k) P ys
+      e = as_heavy e₀
 
-    at : (i : ℕ) → i < to - from → get_or (span from to rs) i [] ≡ get_or rs (from + i) []
-    at i l = get_or-between rs from to i [] (omega arith)
+      low : (i : ℕ) → from ≤ i → i < middle → is_record (get_or rs i []) ≡ true → prefix_of k (kind.hash (key_of (get_or rs i []))) ≡ 2 * P
+      low i l m r = low₀ i l m r ∙ hv.low_prefix
 
-    whole : (i : ℕ) → i < to - from → is_record (get_or rs (from + i) []) ≡ true
-    whole i l = subst (λ r. is_record r ≡ true) (at i l) (run-sorted.whole i (omega (arith, length-between rs from to c)))
+      next : middle < to → is_record (get_or rs middle []) ≡ true → prefix_of k (kind.hash (key_of (get_or rs middle []))) ≡ 2 * P → ⊥
+      next l r h = next₀ l r (h ∙ sym hv.low_prefix)
 
-    low-at : (i : ℕ) → i < middle - from → prefix_of k (kind.hash (key_of (get_or (span from to rs) i []))) ≡ 2 * p
-    low-at i l = subst (λ r. prefix_of k (kind.hash (key_of r)) ≡ 2 * p) (sym (at i (omega arith))) (low (from + i) (omega arith) (omega arith) (whole i (omega arith)))
+      run-sorted : Sorted kind (span from to rs)
+      run-sorted = subst (Sorted kind) (sym e) (sorted_under kind (suc k) P ys s)
 
-    next-at : middle - from < length (span from to rs) → prefix_of k (kind.hash (key_of (get_or (span from to rs) (middle - from) []))) ≡ 2 * p → ⊥
-    next-at l z =
-        let h : middle - from < to - from = omega (arith, length-between rs from to c) in
-        let w : from + (middle - from) ≡ middle = omega arith in
-        next (omega arith) (subst (λ j. is_record (get_or rs j []) ≡ true) w (whole (middle - from) h)) (subst (λ j. prefix_of k (kind.hash (key_of (get_or rs j []))) ≡ 2 * p) w (subst (λ r. prefix_of k (kind.hash (key_of r)) ≡ 2 * p) (at (middle - from) h) z))
+      at : (i : ℕ) → i < to - from → get_or (span from to rs) i [] ≡ get_or rs (from + i) []
+      at i l = get_or-between rs from to i [] (omega arith)
 
-    inside : AllByRecursion (λ r. prefix_of (suc k) (kind.hash (key_of r)) ≡ p) (span from to rs)
-    unfolding under
-    inside = subst (AllByRecursion (λ r. prefix_of (suc k) (kind.hash (key_of r)) ≡ p)) (sym e)
-        (All-weaker (λ r. eqb (prefix_of (suc k) (kind.hash (key_of r))) p ≡ true) (λ r. prefix_of (suc k) (kind.hash (key_of r)) ≡ p) (λ r t. eqb-true _ _ t) _ (kept_by_passes (λ r. eqb (prefix_of (suc k) (kind.hash (key_of r))) p) ys))
+      whole : (i : ℕ) → i < to - from → is_record (get_or rs (from + i) []) ≡ true
+      whole i l = subst (λ r. is_record r ≡ true) (at i l) (run-sorted.whole i (omega (arith, length-between rs from to c)))
 
-    half : (q : ℕ) → q / 2 ≡ p → under (by_key kind) k q (span from to rs) ≡ under (by_key kind) k q ys
-    half q h =
-        let z = first_within k q in
-        let w : q * 2 ^ k / 2 ^ suc k ≡ p = half_of k (q * 2 ^ k) ∙ ap (λ j. j / 2) z ∙ h in
-        ap (under (by_key kind) k q) e ∙ subst (λ j. under (by_key kind) k j (under (by_key kind) (suc k) p ys) ≡ under (by_key kind) k j ys) z (under-under (by_key kind) k (suc k) (q * 2 ^ k) p ys (omega arith) w)
+      low-at : (i : ℕ) → i < middle - from → prefix_of k (kind.hash (key_of (get_or (span from to rs) i []))) ≡ 2 * P
+      low-at i l = subst (λ r. prefix_of k (kind.hash (key_of r)) ≡ 2 * P) (sym (at i (omega arith))) (low (from + i) (omega arith) (omega arith) (whole i (omega arith)))
 
-    pub low_half : span from middle rs ≡ under (by_key kind) k q ys
-    low_half =
-        let cut = cut_low (by_key kind) k p (span from to rs) [] (rising_up kind _ (sorted_rising kind _ run-sorted)) inside (middle - from) (omega (arith, length-between rs from to c)) low-at next-at in
-        sym (take-take (middle - from) (to - from) (drop from rs) (omega arith)) ∙ cut ∙ half (2 * p) (omega arith) ∙ ap (λ n. under (by_key kind) k n ys) (sym w)
+      next-at : middle - from < length (span from to rs) → prefix_of k (kind.hash (key_of (get_or (span from to rs) (middle - from) []))) ≡ 2 * P → ⊥
+      next-at l z =
+          let h : middle - from < to - from = omega (arith, length-between rs from to c) in
+          let w : from + (middle - from) ≡ middle = omega arith in
+          next (omega arith) (subst (λ j. is_record (get_or rs j []) ≡ true) w (whole (middle - from) h)) (subst (λ j. prefix_of k (kind.hash (key_of (get_or rs j []))) ≡ 2 * P) w (subst (λ r. prefix_of k (kind.hash (key_of r)) ≡ 2 * P) (at (middle - from) h) z))
 
-    pub high_half : span middle to rs ≡ under (by_key kind) k' q' ys
-    high_half =
-        let cut = cut_high (by_key kind) k p (span from to rs) [] (rising_up kind _ (sorted_rising kind _ run-sorted)) inside (middle - from) (omega (arith, length-between rs from to c)) low-at next-at in
-        let w : to - from ≡ (middle - from) + (to - middle) = omega arith in
-        let v : from + (middle - from) ≡ middle = omega arith in
-        let back : span middle to rs ≡ drop (middle - from) (span from to rs) =
-        sym (ap (λ j. drop (middle - from) (take j (drop from rs))) w ∙ drop-take (middle - from) (to - middle) (drop from rs) ∙ ap (take (to - middle)) (drop-drop (middle - from) from rs) ∙ ap (λ j. take (to - middle) (drop j rs)) v) in
-        let same : k ≡ k' = omega arith in
-        back ∙ cut ∙ half (2 * p + 1) (omega arith) ∙ ap (λ n. under (by_key kind) k n ys) (sym w') ∙ ap (λ j. under (by_key kind) j q' ys) same
+      inside : AllByRecursion (λ r. prefix_of (suc k) (kind.hash (key_of r)) ≡ P) (span from to rs)
+      unfolding under
+      inside = subst (AllByRecursion (λ r. prefix_of (suc k) (kind.hash (key_of r)) ≡ P)) (sym e)
+          (All-weaker (λ r. eqb (prefix_of (suc k) (kind.hash (key_of r))) P ≡ true) (λ r. prefix_of (suc k) (kind.hash (key_of r)) ≡ P) (λ r t. eqb-true _ _ t) _ (kept_by_passes (λ r. eqb (prefix_of (suc k) (kind.hash (key_of r))) P) ys))
+
+      half : (q : ℕ) → q / 2 ≡ P → under (by_key kind) k q (span from to rs) ≡ under (by_key kind) k q ys
+      half q h =
+          let z = first_within k q in
+          let w : q * 2 ^ k / 2 ^ suc k ≡ P = half_of k (q * 2 ^ k) ∙ ap (λ j. j / 2) z ∙ h in
+          ap (under (by_key kind) k q) e ∙ subst (λ j. under (by_key kind) k j (under (by_key kind) (suc k) P ys) ≡ under (by_key kind) k j ys) z (under-under (by_key kind) k (suc k) (q * 2 ^ k) P ys (omega arith) w)
+
+      pub low_half : span from middle rs ≡ under (by_key kind) k q ys
+      low_half =
+          let cut = cut_low (by_key kind) k P (span from to rs) [] (rising_up kind _ (sorted_rising kind _ run-sorted)) inside (middle - from) (omega (arith, length-between rs from to c)) low-at next-at in
+          sym (take-take (middle - from) (to - from) (drop from rs) (omega arith)) ∙ cut ∙ half (2 * P) (omega arith) ∙ ap (λ n. under (by_key kind) k n ys) (sym hv.low_prefix)
+
+      pub high_half : span middle to rs ≡ under (by_key kind) k' q' ys
+      high_half =
+          let cut = cut_high (by_key kind) k P (span from to rs) [] (rising_up kind _ (sorted_rising kind _ run-sorted)) inside (middle - from) (omega (arith, length-between rs from to c)) low-at next-at in
+          let w : to - from ≡ (middle - from) + (to - middle) = omega arith in
+          let v : from + (middle - from) ≡ middle = omega arith in
+          let back : span middle to rs ≡ drop (middle - from) (span from to rs) =
+          sym (ap (λ j. drop (middle - from) (take j (drop from rs))) w ∙ drop-take (middle - from) (to - middle) (drop from rs) ∙ ap (take (to - middle)) (drop-drop (middle - from) from rs) ∙ ap (λ j. take (to - middle) (drop j rs)) v) in
+          let same : k ≡ k' = omega arith in
+          back ∙ cut ∙ half (2 * P + 1) (omega arith) ∙ ap (λ n. under (by_key kind) k n ys) (sym hv.high_prefix) ∙ ap (λ j. under (by_key kind) j q' ys) same

@@ -1,11 +1,12 @@
 -- Buckets laid out in memory.
-use Rattle.std.specs.Prelude.{◌≡◌, ℕ, ◌+◌, ◌-◌, ◌≤◌, List, map, take, drop}
+use Rattle.std.specs.Prelude.{◌≡◌, ℕ, ◌+◌, ◌-◌, ◌*◌, ◌≤◌, List, map, take, drop}
 use Rattle.arrayvec.specs.ArrayVec.{ArrayVec, array_vec_len, Extends}
 use Rattle.kinds.specs.Kinds.{Kind}
 use Rattle.shape.specs.Shapes.{Held, buckets}
 use Rattle.shape.specs.Buckets.{Leaf, leaves}
 use Rattle.shape.specs.Keyed.{by_key}
 use Rattle.index.specs.Stored.{bucket_at}
+use Rattle.layout.specs.declared.part.Part.{Part}
 
 -- blocks in order
 abbrev pub Buckets : Type 0
@@ -14,6 +15,13 @@ Buckets = ArrayVec (List ℕ)
 -- the records from one place up to another
 abbrev pub span : ℕ → ℕ → List (List ℕ) → List (List ℕ)
 span from to records = take (to - from) (drop from records)
+
+-- the slots under a prefix, and its two halves
+pub record Halves (part low high : Part) : Type 0 where
+  pub low_room : low.room + 1 ≡ part.room
+  pub high_room : high.room + 1 ≡ part.room
+  pub low_prefix : low.prefix ≡ 2 * part.prefix
+  pub high_prefix : high.prefix ≡ 2 * part.prefix + 1
 
 -- the block of a bucket
 abbrev pub leaf_block : Kind → List (List ℕ) → Leaf → List ℕ

@@ -2,6 +2,7 @@
 #![tactic(auto)]
 
 mod branch;
+mod halves;
 mod part;
 mod splitting;
 mod table;

@@ -1,11 +1,4 @@
-ghost use Rattle.std.specs.Prelude.{◌≡◌, ◌+◌, ◌*◌, ◌-◌, ◌^◌, ◌<◌, ◌≤◌, true, MatchOption, Decides};
-ghost use Rattle.records.specs.Records.{is_record, key_of};
-ghost use Rattle.shape.specs.Shapes.{prefix_of};
-ghost use Rattle.index.specs.Stored.{prefix_at};
-
-use buckets::Prefix;
-use kinds::KeyKind;
-use records::read_record;
+ghost use Rattle.std.specs.Prelude.{◌+◌, ◌*◌, ◌^◌, ◌≤◌};
 
 // The slots under a prefix, which leaves `room` of their 7 bits.
 #[derive(Clone, Copy)]
@@ -14,42 +7,4 @@ pub(crate) struct Part {
     pub prefix: u8,
     ghost deep: { room ≤ 7 },
     ghost inside: { (prefix + 1) * 2 ^ room ≤ 128 },
-}
-
-impl Part {
-    // The prefix as a bucket block has it.
-    pub fn prefix(self) -> Prefix
-        ensures { result ≡ prefix_at self.room self.prefix }
-    {
-        Prefix {
-            bits: 7 - self.room,
-            top: u32::from(self.prefix << self.room) << 25,
-        }
-    }
-
-    // The low half and the high half, unless it is one slot.
-    pub fn halves(self) -> Option<(Part, Part)>
-        ensures { MatchOption result (self.room ≡ 0) (λ p. (p.0.room + 1 ≡ self.room) × (p.1.room + 1 ≡ self.room) × (p.0.prefix ≡ 2 * self.prefix) × (p.1.prefix ≡ 2 * self.prefix + 1)) }
-    {
-        let room = self.room.checked_sub(1)?;
-        let prefix = 2 * self.prefix;
-        Some((
-            Part { room, prefix },
-            Part {
-                room,
-                prefix: prefix + 1,
-            },
-        ))
-    }
-
-    // Whether a record's hash begins with the prefix.
-    pub fn has<K: KeyKind>(self, bytes: &[u8]) -> bool
-        ensures { is_record bytes.now ≡ true → Decides result (prefix_of self.room (K.KeyKind.kind.hash (key_of bytes.now)) ≡ self.prefix) }
-    {
-        match read_record(bytes) {
-            Some(parts) => u64::from(K::hash(parts.key)) >> (25 + self.room)
-                == u64::from(self.prefix),
-            None => false,
-        }
-    }
 }

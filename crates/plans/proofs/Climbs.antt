@@ -11,16 +11,16 @@ use Rattle.plans.specs.declared.merge.Merge.{Merge}
 use Rattle.plans.specs.Merging.{Under, Joins, Reached, Merged}
 use Rattle.plans.proofs.Merges.{times-append, bucket-leaves}
 
-module _ (kind : Kind) (blocks : Blocks) (head : ℕ) (header : List ℕ) (old new : List (List ℕ)) (s : ℕ) where
-  pub reached_start : (k : ℕ) (bytes : List ℕ) → Under kind blocks head header old new s k bytes → room_at kind old s ≡ k → Reached kind blocks head header old new s k bytes []
-  reached_start k bytes u e = record {
+module _ {kind : Kind} {blocks : Blocks} {head : ℕ} {header : List ℕ} {old new : List (List ℕ)} {s : ℕ} where
+  pub reached_start : {k : ℕ} {bytes : List ℕ} → Under kind blocks head header old new s k bytes → room_at kind old s ≡ k → Reached kind blocks head header old new s k bytes []
+  reached_start {k} u e = record {
     under = u;
-    names = λ b. sym (ap (λ h. times b (pointers h (leaves (by_key kind) k (s / 2 ^ k) old))) u.read ∙ ap (times b) (bucket-leaves kind blocks head old u.stored s k u.slot e) ∙ ap (λ h. times b (get_or (slots h) s 0 ∷ [])) (sym u.read));
+    names = λ b. sym (ap (λ h. times b (pointers h (leaves (by_key kind) k (s / 2 ^ k) old))) u.read ∙ ap (times b) (bucket-leaves u.stored s k u.slot e) ∙ ap (λ h. times b (get_or (slots h) s 0 ∷ [])) (sym u.read));
   }
 
-  pub reached_more : (k : ℕ) (bytes given : List ℕ) (beside : Bucket) → Reached kind blocks head header old new s k bytes given → Joins kind header old new s k beside
+  pub reached_more : {k : ℕ} {bytes given : List ℕ} {beside : Bucket} → Reached kind blocks head header old new s k bytes given → Joins kind header old new s k beside
       → Reached kind blocks head header old new s (suc k) beside.block (given ++ beside.number ∷ [])
-  reached_more k bytes given beside r j = record {
+  reached_more {given = given} {beside = beside} r j = record {
     under = record {
       stored = r.under.stored;
       read = r.under.read;

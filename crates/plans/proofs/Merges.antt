@@ -30,7 +30,7 @@ times-append b (x ∷ xs) ys = omega (arith, times-append b xs ys)
 pub first_below : (k s : ℕ) → s / 2 ^ k * 2 ^ k ≤ s
 first_below k s = omega (arith, div-add-mod' s (2 ^ k))
 
-module _ (kind : Kind) (blocks : Blocks) (head : ℕ) (old : List (List ℕ)) (st : Stored kind blocks head old) where
+module _ {kind : Kind} {blocks : Blocks} {head : ℕ} {old : List (List ℕ)} (st : Stored kind blocks head old) where
   -- slots of one bucket have one pointer
   pub run_pointer : (s t : ℕ) → s < 128 → t < 128 → t / 2 ^ room_at kind old s ≡ s / 2 ^ room_at kind old s → get_or (slots (block blocks head)) t 0 ≡ get_or (slots (block blocks head)) s 0
   run_pointer s t ls lt e = eqb-true _ _ (st.runs s ls t lt ∙ eq-eqb _ _ e)
@@ -46,8 +46,7 @@ module _ (kind : Kind) (blocks : Blocks) (head : ℕ) (old : List (List ℕ)) (s
       one zero p h = leaves_zero (by_key kind) p old
       one (suc k) p h = leaves_light (by_key kind) (suc k) p old (h (omega arith))
 
-module _ (kind : Kind) (blocks : Blocks) (head : ℕ) (header : List ℕ) (old new : List (List ℕ)) (s k : ℕ) (bytes : List ℕ)
-    (u : Under kind blocks head header old new s k bytes) (deep : k < 7)
+module _ {kind : Kind} {blocks : Blocks} {head : ℕ} {header : List ℕ} {old new : List (List ℕ)} {s k : ℕ} {bytes : List ℕ} (u : Under kind blocks head header old new s k bytes) (deep : k < 7)
     (t : ℕ) (inside : t < 128) (apart : t / 2 ^ k ≡ s / 2 ^ k → ⊥) (near : t / 2 ^ k / 2 ≡ s / 2 ^ k / 2) where
   above : t / 2 ^ suc k ≡ s / 2 ^ suc k
   above = half_of k t ∙ near ∙ sym (half_of k s)
@@ -77,7 +76,7 @@ module _ (kind : Kind) (blocks : Blocks) (head : ℕ) (header : List ℕ) (old n
       let xs = under (by_key kind) k (s / 2 ^ k) new in
       ap records_in u.holds ∙ records_back (prefix_at k (s / 2 ^ k)) xs (omega (arith, load-sum xs, leb-true _ _ u.light))
 
-  module _ (number : ℕ) (beside : List ℕ) (b : BucketIn blocks header (t * 33554432) number beside) where
+  module _ {number : ℕ} {beside : List ℕ} (b : BucketIn blocks header (t * 33554432) number beside) where
     small : t * 33554432 < 2 ^ 32
     small = omega arith
 
@@ -85,18 +84,18 @@ module _ (kind : Kind) (blocks : Blocks) (head : ℕ) (header : List ℕ) (old n
     slot_is = omega arith
 
     pub beside-room : 7 - get_or beside 1 0 ≡ room_at kind old t
-    beside-room = room_is kind blocks head old u.stored (t * 33554432) small header u.read number beside b ∙ ap (room_at kind old) slot_is
+    beside-room = room_is u.stored small u.read b ∙ ap (room_at kind old) slot_is
 
     pub beside-bits : get_or beside 1 0 ≡ 7 - room_at kind old t
-    beside-bits = bits_is kind blocks head old u.stored (t * 33554432) small header u.read number beside b ∙ ap (λ n. 7 - room_at kind old n) slot_is
+    beside-bits = bits_is u.stored small u.read b ∙ ap (λ n. 7 - room_at kind old n) slot_is
 
     pub beside-number : number ≡ get_or (slots header) t 0
-    beside-number = number_is kind blocks head old u.stored (t * 33554432) small header u.read number beside b ∙ ap (λ n. get_or (slots (block blocks head)) n 0) slot_is ∙ ap (λ h. get_or (slots h) t 0) (sym u.read)
+    beside-number = number_is u.stored small u.read b ∙ ap (λ n. get_or (slots (block blocks head)) n 0) slot_is ∙ ap (λ h. get_or (slots h) t 0) (sym u.read)
 
     module _ (one : room_at kind old t ≡ k) where
       beside-records : records_in beside ≡ under (by_key kind) k (t / 2 ^ k) new
       beside-records =
-          holds-is kind blocks head old u.stored (t * 33554432) small header u.read number beside b k (sym one ∙ ap (room_at kind old) (sym slot_is))
+          holds-is u.stored small u.read b k (sym one ∙ ap (room_at kind old) (sym slot_is))
           ∙ ap (λ n. under (by_key kind) k (n / 2 ^ k) old) slot_is ∙ u.differ k (t / 2 ^ k) apart
 
       joined-low : s / 2 ^ k % 2 ≡ 0 → records_in bytes ++ records_in beside ≡ under (by_key kind) (suc k) (s / 2 ^ suc k) new
@@ -130,7 +129,7 @@ module _ (kind : Kind) (blocks : Blocks) (head : ℕ) (header : List ℕ) (old n
           let B = leaves (by_key kind) k (2 * P + 1) old in
           let at = pointers header in
           let beside-one : times x (at (leaves (by_key kind) k (t / 2 ^ k) old)) ≡ cond (eqb x number) 1 0
-          = ap (λ h. times x (pointers h (leaves (by_key kind) k (t / 2 ^ k) old))) u.read ∙ ap (times x) (bucket-leaves kind blocks head old u.stored t k inside one)
+          = ap (λ h. times x (pointers h (leaves (by_key kind) k (t / 2 ^ k) old))) u.read ∙ ap (times x) (bucket-leaves u.stored t k inside one)
           ∙ ap (λ n. cond (eqb x n) 1 0 + 0) (ap (λ h. get_or (slots h) t 0) (sym u.read) ∙ sym beside-number) ∙ omega arith in
           let whole : times x (at (leaves (by_key kind) (suc k) P old)) ≡ times x (at A) + times x (at B)
           = ap (λ ls. times x (at ls)) (leaves_heavy (by_key kind) k P old old_heavy) ∙ ap (times x) (map-append (λ l. get_or (slots header) (first_slot l) 0) A B) ∙ times-append x (at A) (at B) in

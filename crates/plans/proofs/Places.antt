@@ -19,11 +19,11 @@ bits_in prefix rs = refl
 pub slot_prefix_of : (k h : ℕ) → prefix_of k h ≡ h / 2 ^ 25 / 2 ^ k
 slot_prefix_of k h = prefix_far k h ∙ ap (λ n. n / 2 ^ k) (slot_of h)
 
-module _ (kind : Kind) (blocks : Blocks) (head : ℕ) (rs : List (List ℕ)) (st : Stored kind blocks head rs) where
+module _ {kind : Kind} {blocks : Blocks} {head : ℕ} {rs : List (List ℕ)} (st : Stored kind blocks head rs) where
   pub bits_told : (s : ℕ) → s < 128 → get_or (block blocks (get_or (slots (block blocks head)) s 0)) 1 0 ≡ 7 - room_at kind rs s
   bits_told s l = ap (λ b. get_or b 1 0) (st.leads s l) ∙ bits_in (prefix_at (room_at kind rs s) (s / 2 ^ room_at kind rs s)) (under (by_key kind) (room_at kind rs s) (s / 2 ^ room_at kind rs s) rs)
 
-  module _ (hash : ℕ) (l : hash < 2 ^ 32) (header : List ℕ) (same : header ≡ block blocks head) (number : ℕ) (bytes : List ℕ) (b : BucketIn blocks header hash number bytes) where
+  module _ {hash : ℕ} (l : hash < 2 ^ 32) {header : List ℕ} (same : header ≡ block blocks head) {number : ℕ} {bytes : List ℕ} (b : BucketIn blocks header hash number bytes) where
     at_head : BucketIn blocks (block blocks head) hash number bytes
     at_head = subst (λ h. BucketIn blocks h hash number bytes) same b
 

@@ -40,7 +40,7 @@ laid_one kind new k p laid light blocks =
       long = ap length blocks ∙ sym (sym (length-leaves (by_key kind) k p new) ∙ ap length one);
     }
 
-module _ (kind : Kind) (blocks : Blocks) (head : ℕ) (old new : List (List ℕ)) (at : Located) (changed : List (List ℕ)) (count : ℕ) (e : Edited kind blocks head old new at changed count) (bounded : Bounded kind) where
+module _ {kind : Kind} {blocks : Blocks} {head : ℕ} {old new : List (List ℕ)} {at : Located} {changed : List (List ℕ)} {count : ℕ} (e : Edited kind blocks head old new at changed count) (bounded : Bounded kind) where
   changed_light : load changed ≤ 504 → is_light (by_key kind) at.branch.room (at.branch.slot / 2 ^ at.branch.room) new ≡ true
   changed_light l = le-leb _ _ (omega (arith, load-sum changed, ap (sum_by weight) e.there))
 
@@ -95,7 +95,7 @@ module _ (kind : Kind) (blocks : Blocks) (head : ℕ) (old new : List (List ℕ)
       let heavy : is_light (by_key kind) K (s / 2 ^ K) new ≡ false = lt-leb _ _ (omega (arith, load-sum changed, ap (sum_by weight) e.there)) in
       planned K given laid (omega (arith, e.room, room_le (by_key kind) 7 old s))
       (λ j l b. (room_above (by_key kind) 7 old s j (omega (arith, e.room)) b, heavy_up (by_key kind) K j s new (omega arith) heavy)) lay
-      (λ b. ap (λ xs. times b (get_or (slots (block blocks head)) s 0 ∷ xs)) none ∙ ap (times b) (sym (bucket-leaves kind blocks head old e.stored s K e.slot (sym e.room))))
+      (λ b. ap (λ xs. times b (get_or (slots (block blocks head)) s 0 ∷ xs)) none ∙ ap (times b) (sym (bucket-leaves e.stored s K e.slot (sym e.room))))
 
   -- where it cannot be split, the records cannot be held
   pub not_held : (Held (by_key kind) at.branch.room (at.branch.slot / 2 ^ at.branch.room) new → ⊥) → Held (by_key kind) 7 0 new → ⊥

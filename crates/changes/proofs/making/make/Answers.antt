@@ -9,7 +9,7 @@ use Rattle.plans.specs.Planned.{Changed}
 use Rattle.changes.specs.Making.{written}
 use Rattle.changes.proofs.Writes.{length-written}
 use Rattle.changes.proofs.Naming.{some_laid}
-use Rattle.changes.proofs.Stores.{spare_taken, there, wrote-both, wrote-buckets, changed}
+use Rattle.changes.proofs.Stores.{pending_taken, there, wrote-both, wrote-buckets, changed}
 use Rattle.changes.proofs.making.make.Goals as goal
 
 pub returns-then-not-is_ready-clause-makes : goal.returns-then-not-is_ready-clause-makes
@@ -21,9 +21,8 @@ returns-then-not-is_ready-clause-makes g c = λ kind old new st pl sp.
     let n = array_vec_len plan.laid - 1 in
     let told = rw c.in_ok-numbers.ensures.ok_part at c.numbers_for.ensures in
     let items = c.as_slice-numbers.ensures.value ∙ told.1 in
-    let sp' = spare_taken kind before head old spare n sp in
-    let enough : array_vec_len plan.laid ≤ 1 + length (take n spare) = omega (arith, told.0, length-take n spare) in
-    let some = some_laid kind before head old new plan (take n spare) st pl sp' enough in
+    let due = pending_taken kind before head old new plan spare st pl sp told.0 in
+    let some = some_laid due in
     let long : length c.as_slice-numbers.result.now ≡ array_vec_len plan.laid = omega (arith, ap length items, length-take n spare, told.0, some) in
     record {
       served = (
@@ -31,7 +30,7 @@ returns-then-not-is_ready-clause-makes g c = λ kind old new st pl sp.
         λ a. absurd (both_ways _ c.if-not-is_ready.true (c.is_ready.ensures.1 (record {
           writes = omega (arith, long, a.1);
           header = st.inside;
-          there = subst (λ ns. (i : ℕ) → i < length ns → get_or ns i 0 < length before) (sym items) (λ i l. there kind before head old new plan (take n spare) st pl sp' enough i (omega (arith, l, long, ap length items)));
+          there = subst (λ ns. (i : ℕ) → i < length ns → get_or ns i 0 < length before) (sym items) (λ i l. there due i (omega (arith, l, long, ap length items)));
         }))),
       );
       scarce = λ _. refl;
@@ -46,7 +45,7 @@ returns-in_err-header-clause-makes g c = λ kind old new st pl sp.
     let n = array_vec_len plan.laid - 1 in
     let told = rw c.in_ok-numbers.ensures.ok_part at c.numbers_for.ensures in
     let none = rw c.in_err-header.ensures.ok_part at c.head_after.ensures in
-    absurd (none kind before c.args.head old new (take n spare) st pl (spare_taken kind before c.args.head old spare n sp) (omega (arith, told.0, length-take n spare)) (c.as_slice-numbers.ensures.value ∙ told.1))
+    absurd (none kind before c.args.head old new (take n spare) (pending_taken kind before c.args.head old new plan spare st pl sp told.0) (c.as_slice-numbers.ensures.value ∙ told.1))
 
 pub write_buckets-requires : goal.write_buckets-requires
 write_buckets-requires g c =
@@ -71,9 +70,8 @@ returns-then-ne-clause-makes g c = λ kind old new st pl sp.
     let b = c.write_buckets.ensures in
     let long = ap length items in
     let short = length-take n spare in
-    let sp' = spare_taken kind before head old spare n sp in
-    let enough : array_vec_len plan.laid ≤ 1 + length (take n spare) = omega (arith, told.0, short) in
-    let hd = (rw c.in_ok-header.ensures.ok_part at c.head_after.ensures) kind before head old new (take n spare) st pl sp' enough items in
+    let due = pending_taken kind before head old new plan spare st pl sp told.0 in
+    let hd = (rw c.in_ok-header.ensures.ok_part at c.head_after.ensures) kind before head old new (take n spare) due items in
     let wrote : g.D.Device.contents mid ≡ written before (plan.number ∷ take n spare) plan.laid.items = b.sets ∙ ap (λ ns. written before ns c.as_slice.result.now) items ∙ ap (written before (plan.number ∷ take n spare)) c.as_slice.ensures.value in
     let low : c.from.result < length (g.D.Device.contents mid) = omega (arith, c.from.ensures, ready.header, ap length wrote, length-written before (plan.number ∷ take n spare) plan.laid.items) in
     let size : length header ≡ 512 = omega arith in
@@ -86,7 +84,7 @@ returns-then-ne-clause-makes g c = λ kind old new st pl sp.
       scarce = λ f. absurd (both_ways true f refl);
       changed = λ _.
           subst (λ ts. Changed kind before after head old new ts plan.given.items) (take-take n n spare (omega arith))
-          (changed kind before after head old new plan (take n spare) header st pl sp' enough hd (wrote-both kind before head old new plan (take n spare) st pl sp' enough header hd after sets));
+          (changed due hd (wrote-both due header hd after sets));
     }
 
 pub returns-else-ne-clause-makes : goal.returns-else-ne-clause-makes
@@ -103,9 +101,8 @@ returns-else-ne-clause-makes g c = λ kind old new st pl sp.
     let ready = c.is_ready.ensures.0 c.if-not-is_ready.false in
     let long = ap length items in
     let short = length-take n spare in
-    let sp' = spare_taken kind before head old spare n sp in
-    let enough : array_vec_len plan.laid ≤ 1 + length (take n spare) = omega (arith, told.0, short) in
-    let hd = (rw c.in_ok-header.ensures.ok_part at c.head_after.ensures) kind before head old new (take n spare) st pl sp' enough items in
+    let due = pending_taken kind before head old new plan spare st pl sp told.0 in
+    let hd = (rw c.in_ok-header.ensures.ok_part at c.head_after.ensures) kind before head old new (take n spare) due items in
     let wrote : after ≡ written before (plan.number ∷ take n spare) plan.laid.items = c.write_buckets.ensures.sets ∙ ap (λ ns. written before ns c.as_slice.result.now) items ∙ ap (written before (plan.number ∷ take n spare)) c.as_slice.ensures.value in
     let x = pointwise eqb header plan.header in
     let equal : x ≡ true = not-false x (sym c.ne.ensures ∙ c.if-ne.false) in
@@ -115,5 +112,5 @@ returns-else-ne-clause-makes g c = λ kind old new st pl sp.
       scarce = λ f. absurd (both_ways true f refl);
       changed = λ _.
           subst (λ ts. Changed kind before after head old new ts plan.given.items) (take-take n n spare (omega arith))
-          (changed kind before after head old new plan (take n spare) header st pl sp' enough hd (wrote-buckets kind before head old new plan (take n spare) st pl sp' enough header hd after wrote (same ∙ pl.read)));
+          (changed due hd (wrote-buckets due header hd after wrote (same ∙ pl.read)));
     }

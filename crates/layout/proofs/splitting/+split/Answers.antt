@@ -42,8 +42,8 @@ returns-in_err-split g t c = λ ys s e.
     let told = c.in_default.ensures.bytes in
     let heavy : leb (load xs) 504 ≡ false = grind arith in
     let cut = c.cut-middle.ensures in
-    let first = low_half kind ys part.room part.prefix low.room low.prefix high.room high.prefix h.0 h.1 h.2 h.3 s (g.S.Source.records c.args.source.now) c.args.from c.args.to c.cut-middle.result e cut.after cut.within c.requires.1 cut.low cut.next in
-    rw c.from_residual-in_err-split.ensures (low_unlaid kind ys part.room part.prefix low.room low.prefix high.room high.prefix h.0 h.1 h.2 h.3 xs e heavy c.args.laid.now (c.in_err-split.ensures ys s first))
+    let first = low_half kind ys h s (g.S.Source.records c.args.source.now) c.args.from c.args.to c.cut-middle.result e cut.after cut.within c.requires.1 cut.low cut.next in
+    rw c.from_residual-in_err-split.ensures (low_unlaid kind ys h e heavy c.args.laid.now (c.in_err-split.ensures ys s first))
 
 pub returns : goal.returns
 returns g t c = λ ys s e.
@@ -56,9 +56,9 @@ returns g t c = λ ys s e.
     let told = c.in_default.ensures.bytes in
     let heavy : leb (load (span c.args.from c.args.to rs)) 504 ≡ false = grind arith in
     let cut = c.cut-middle.ensures in
-    let first = low_half kind ys part.room part.prefix low.room low.prefix high.room high.prefix h.0 h.1 h.2 h.3 s rs c.args.from c.args.to c.cut-middle.result e cut.after cut.within c.requires.1 cut.low cut.next in
-    let last = high_half kind ys part.room part.prefix low.room low.prefix high.room high.prefix h.0 h.1 h.2 h.3 s rs c.args.from c.args.to c.cut-middle.result e cut.after cut.within c.requires.1 cut.low cut.next in
+    let first = low_half kind ys h s rs c.args.from c.args.to c.cut-middle.result e cut.after cut.within c.requires.1 cut.low cut.next in
+    let last = high_half kind ys h s rs c.args.from c.args.to c.cut-middle.result e cut.after cut.within c.requires.1 cut.low cut.next in
     let behind = c.in_ok-split.ensures ys s first in
     either c.split-2.result (c.split-2.ensures ys s last)
-    (high_unlaid kind ys part.room part.prefix low.room low.prefix high.room high.prefix h.0 h.1 h.2 h.3 (span c.args.from c.args.to rs) e heavy c.args.laid.now c.split.new.laid behind)
-    (λ _. both_behind kind ys part.room part.prefix low.room low.prefix high.room high.prefix h.0 h.1 h.2 h.3 (span c.args.from c.args.to rs) e heavy c.args.laid.now c.split.new.laid behind c.split-2.new.laid)
+    (high_unlaid kind ys h e heavy c.args.laid.now c.split.new.laid behind)
+    (λ _. both_behind kind ys h e heavy c.args.laid.now c.split.new.laid behind c.split-2.new.laid)

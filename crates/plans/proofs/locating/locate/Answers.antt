@@ -27,7 +27,7 @@ returns-in_err-branch g c = λ rs st.
     let l : h < 2 ^ 32 = omega arith in
     let bucket = c.in_ok-number.field-0 in
     let none = rw c.in_err-branch.ensures.ok_part at c.branch_in.ensures in
-    absurd (none (omega (arith, bits_is kind (g.D.Device.contents c.args.device.now) c.args.head rs st h l header c.in_ok-header.ensures.1 bucket.number bucket.block c.in_ok-number.ensures)))
+    absurd (none (omega (arith, bits_is st l c.in_ok-header.ensures.1 c.in_ok-number.ensures)))
 
 pub returns : goal.returns
 returns g c = λ rs st.
@@ -43,7 +43,7 @@ returns g c = λ rs st.
     let branch = c.in_ok-branch.branch in
     let told = rw c.in_ok-branch.ensures.ok_part at c.branch_in.ensures in
     let at : h / 2 ^ 25 ≡ branch.slot = sym told.0 in
-    let bits : branch.room ≡ room_at kind rs (h / 2 ^ 25) = omega (arith, told.1, room_is kind blocks head rs st h l header same bucket.number bucket.block b) in
+    let bits : branch.room ≡ room_at kind rs (h / 2 ^ 25) = omega (arith, told.1, room_is st l same b) in
     let counted = c.count_in.ensures.told (length rs) (deepest (rooms kind rs)) (slots (block blocks head)) st.countable (subst (Encodes (length rs) (deepest (rooms kind rs)) (slots (block blocks head))) (sym same) st.header) in
     let count = c.in_ok-count.ensures.ok_part in
     record {
@@ -51,7 +51,7 @@ returns g c = λ rs st.
       count = cc;
       slot = told.0 ∙ ap (λ n. n / 2 ^ 25) c.hash-hash.ensures;
       room = bits ∙ ap (room_at kind rs) at;
-      number = number_is kind blocks head rs st h l header same bucket.number bucket.block b ∙ ap (λ n. get_or (slots (block blocks head)) n 0) at;
-      holds = holds-is kind blocks head rs st h l header same bucket.number bucket.block b branch.room bits ∙ ap (λ n. under (by_key kind) branch.room (n / 2 ^ branch.room) rs) at;
-      placed = c.place_in-place.ensures (holds-sorted kind blocks head rs st h l header same bucket.number bucket.block b) c.requires;
+      number = number_is st l same b ∙ ap (λ n. get_or (slots (block blocks head)) n 0) at;
+      holds = holds-is st l same b branch.room bits ∙ ap (λ n. under (by_key kind) branch.room (n / 2 ^ branch.room) rs) at;
+      placed = c.place_in-place.ensures (holds-sorted st l same b) c.requires;
     }

@@ -10,7 +10,7 @@ loop-branch-init g c = (
   λ kind head old new u e.
       let blocks = g.D.Device.contents c.args.device.now in
       let start = c.args.start in
-      subst (Reached kind blocks head c.args.header.now old new start.slot start.room c.args.bytes) (sym c.new-given.ensures) (reached_start kind blocks head c.args.header.now old new start.slot start.room c.args.bytes u e),
+      subst (Reached kind blocks head c.args.header.now old new start.slot start.room c.args.bytes) (sym c.new-given.ensures) (reached_start u e),
 )
 
 pub loop-branch-smaller : goal.loop-branch-smaller
@@ -37,7 +37,7 @@ loop-branch-preserved g c =
           let j = subst (λ s. JoinEnds kind header old new s branch.room (Ok (Some (c.in-Some.above, beside)))) inv.1 (subst (JoinEnds kind header old new branch.slot branch.room) was (c.join.ensures.ends kind head old new at)) in
           subst (λ k. Reached kind blocks head header old new start.slot k beside.block c.push.new.self.items) (sym up.1)
           (subst (Reached kind blocks head header old new start.slot (suc branch.room) beside.block) (sym c.push.ensures.items)
-          (reached_more kind blocks head header old new start.slot branch.room c.loop-branch.block given.items beside r j)),
+          (reached_more r j)),
     )
 
 pub returns-in_err-above : goal.returns-in_err-above
@@ -56,4 +56,4 @@ returns g c = λ kind head old new u e.
     let r = inv.2 kind head old new u e in
     let at = subst (λ s. Under kind blocks head header old new s branch.room c.loop-branch.block) (sym inv.1) r.under in
     let heavy = subst (JoinEnds kind header old new branch.slot branch.room) (c.in_ok-above.was ∙ ap Ok c.in_default.is) (c.join.ensures.ends kind head old new at) in
-    merged_end kind blocks head header old new c.args.start.slot _ branch.deep r (subst (λ s. JoinEnds kind header old new s branch.room (Ok None)) inv.1 heavy)
+    merged_end _ branch.deep r (subst (λ s. JoinEnds kind header old new s branch.room (Ok None)) inv.1 heavy)

@@ -29,8 +29,8 @@ returns-then-beside-branch-clause-ends g c = λ kind head old new u deep.
     let near = c.buddy-other.ensures in
     let beside = c.in_ok-beside.beside in
     let b = subst (λ x. BucketIn blocks header x beside.number beside.block) (hash_of t c.from.result c.from.ensures near.inside) c.in_ok-beside.ensures in
-    let bits = beside-bits kind blocks head header old new branch.slot branch.room c.args.block.now u deep t near.inside near.apart near.near beside.number beside.block b in
-    beside_split kind blocks head header old new branch.slot branch.room c.args.block.now u deep t near.inside near.apart near.near
+    let bits = beside-bits u deep t near.inside near.apart near.near b in
+    beside_split u deep t near.inside near.apart near.near
     (λ e. c.if-beside-branch.true (bits ∙ ap (λ n. 7 - n) e))
 
 pub returns-in_default-join_blocks-clause-ends : goal.returns-in_default-join_blocks-clause-ends
@@ -42,9 +42,9 @@ returns-in_default-join_blocks-clause-ends g c = λ kind head old new u deep.
     let near = c.buddy-other.ensures in
     let beside = c.in_ok-beside.beside in
     let b = subst (λ x. BucketIn blocks header x beside.number beside.block) (hash_of t c.from.result c.from.ensures near.inside) c.in_ok-beside.ensures in
-    let room = beside-room kind blocks head header old new branch.slot branch.room c.args.block.now u deep t near.inside near.apart near.near beside.number beside.block b in
+    let room = beside-room u deep t near.inside near.apart near.near b in
     let one : room_at kind old t ≡ branch.room = omega (arith, room, c.if-beside-branch.false, deep) in
-    heavy_two kind blocks head header old new branch.slot branch.room c.args.block.now u deep t near.inside near.apart near.near beside.number beside.block b one _ refl c.prefix.result c.in_default-join_blocks.ensures
+    heavy_two u deep t near.inside near.apart near.near b one _ refl c.prefix.result c.in_default-join_blocks.ensures
 
 pub returns-clause-ends : goal.returns-clause-ends
 returns-clause-ends g c = λ kind head old new u.
@@ -57,7 +57,7 @@ returns-clause-ends g c = λ kind head old new u.
     let near = c.buddy-other.ensures in
     let beside = c.in_ok-beside.beside in
     let b = subst (λ x. BucketIn blocks header x beside.number beside.block) (hash_of t c.from.result c.from.ensures near.inside) c.in_ok-beside.ensures in
-    let room = beside-room kind blocks head header old new branch.slot branch.room c.args.block.now u deep t near.inside near.apart near.near beside.number beside.block b in
+    let room = beside-room u deep t near.inside near.apart near.near b in
     let one : room_at kind old t ≡ branch.room = omega (arith, room, c.if-beside-branch.false, deep) in
     let prefix = c.prefix.ensures ∙ ap (λ n. prefix_at c.in-Some.above.room (n / 2 ^ c.in-Some.above.room)) above.0 ∙ ap (λ j. prefix_at j (branch.slot / 2 ^ j)) (above.1 ∙ add-one branch.room) in
-    joins kind blocks head header old new branch.slot branch.room c.args.block.now u deep t near.inside near.apart near.near beside.number beside.block b one _ refl c.prefix.result c.in-Some-join_blocks.block prefix c.in-Some-join_blocks.ensures
+    joins u deep t near.inside near.apart near.near b one _ refl c.prefix.result c.in-Some-join_blocks.block prefix c.in-Some-join_blocks.ensures

@@ -4,11 +4,9 @@ use Rattle.plans.proofs.planning.plan_light.Goals as goal
 
 pub returns-in_err-merge : goal.returns-in_err-merge
 returns-in_err-merge g c = λ kind head old new changed e bounded l b.
-    absurd (c.in_err-merge.ensures kind head old new (edited_under kind (g.D.Device.contents c.args.device.now) head old new c.args.at.now changed c.args.count e bounded c.args.bytes l b) (sym e.room))
+    absurd (c.in_err-merge.ensures kind head old new (edited_under e bounded c.args.bytes l b) (sym e.room))
 
 pub returns : goal.returns
 returns g c = λ kind head old new changed e bounded l b.
-    let blocks = g.D.Device.contents c.args.device.now in
-    let at = c.args.at.now in
-    let m = c.in_ok-merge.ensures kind head old new (edited_under kind blocks head old new at changed c.args.count e bounded c.args.bytes l b) (sym e.room) in
-    planned_light kind blocks head old new at changed c.args.count e bounded c.in_ok-merge.merge c.push.new.self m (c.push.ensures.items ∙ ap (λ xs. xs ++ c.in_ok-merge.merge.block ∷ []) c.new-laid.ensures)
+    let m = c.in_ok-merge.ensures kind head old new (edited_under e bounded c.args.bytes l b) (sym e.room) in
+    planned_light e bounded c.in_ok-merge.merge c.push.new.self m (c.push.ensures.items ∙ ap (λ xs. xs ++ c.in_ok-merge.merge.block ∷ []) c.new-laid.ensures)
