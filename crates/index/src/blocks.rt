@@ -12,9 +12,7 @@ pub fn read_block<D: Device>(device: &D, number: u16) -> Result<[u8; 512], Fault
     ensures { MatchResult result (λ bytes. (number < length (D.Device.contents device.now)) × (bytes ≡ slice_index_or (D.Device.contents device.now) number [])) (λ e. (e ≡ Broken) × (length (D.Device.contents device.now) ≤ number)) }
 {
     let mut bytes = [0; BLOCK_SIZE];
-    device
-        .read(u32::from(number), &mut bytes)
-        .map_err(|_| Fault::Broken)?;
+    device.read(u32::from(number), &mut bytes)?;
     Ok(bytes)
 }
 

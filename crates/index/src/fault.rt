@@ -1,3 +1,7 @@
+ghost use Rattle.std.specs.Prelude.{◌≡◌};
+ghost use Rattle.index.specs.declared.fault.Fault.TheVariants.{Broken};
+
+use device::Refused;
 use std::error::Error;
 use std::fmt;
 
@@ -26,3 +30,12 @@ impl fmt::Display for Fault {
 }
 
 impl Error for Fault {}
+
+// A block that a device does not have, and an index names, shows that this is none.
+impl From<Refused> for Fault {
+    ghost from_gives = { λ _ e. e ≡ Broken };
+
+    fn from(_refused: Refused) -> Self {
+        Self::Broken
+    }
+}
