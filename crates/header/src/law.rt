@@ -11,13 +11,12 @@ fn is_run(slots: &[u16; 128], room: u8, s: usize) -> bool
 
 // The slot beside another that the prefix with `room` bits left tells from it, and no shorter prefix does.
 pub fn buddy(slot: u8, room: u8) -> u8
-    requires { (slot < 128) × (room < 7) }
-    ensures value { result ≡ bit_xor slot (2 ^ room) }
-    ensures inside { result < 128 }
-    ensures apart { result / 2 ^ room ≢ slot / 2 ^ room }
-    ensures near { result / 2 ^ room / 2 ≡ slot / 2 ^ room / 2 }
+    ensures value { room < 8 → result ≡ bit_xor slot (2 ^ room) }
+    ensures inside { slot < 128 → room < 7 → result < 128 }
+    ensures apart { room < 8 → result / 2 ^ room ≢ slot / 2 ^ room }
+    ensures near { room < 8 → result / 2 ^ room / 2 ≡ slot / 2 ^ room / 2 }
 {
-    slot ^ (1 << room)
+    slot ^ 1u8.wrapping_shl(u32::from(room))
 }
 
 // The bits that the run of a slot leaves, where it is lawful.
