@@ -10,18 +10,9 @@ use crate::merge::Merge;
 use crate::numbers::Numbers;
 use buckets::{Joined, Prefix, build};
 use device::Device;
+use header::buddy;
 use index::{Bucket, Fault, read_bucket};
 use layout::Branch;
-
-// A slot beside a prefix, under the prefix that is a bit shorter.
-fn buddy(branch: Branch) -> u8
-    requires { branch.room < 7 }
-    ensures inside { result < 128 }
-    ensures apart { result / 2 ^ branch.room ≢ branch.slot / 2 ^ branch.room }
-    ensures near { result / 2 ^ branch.room / 2 ≡ branch.slot / 2 ^ branch.room / 2 }
-{
-    branch.slot ^ (1 << branch.room)
-}
 
 // The block of the records of two bucket blocks, where they are light together.
 fn join_blocks(prefix: Prefix, is_low: bool, block: &[u8], beside: &[u8]) -> Option<[u8; 512]>
@@ -49,7 +40,8 @@ fn join<D: Device>(
     let Some(above) = branch.up() else {
         return Ok(None);
     };
-    let other = buddy(branch);
+    // A slot of the prefix beside this one, under the one above.
+    let other = buddy(branch.slot, branch.room);
     let beside = read_bucket(device, header, u32::from(other) << 25)?;
     if beside.block[1] != 7 - branch.room {
         return Ok(None);
