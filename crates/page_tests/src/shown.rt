@@ -26,7 +26,7 @@ fn a_page_shows_all_records_in_rising_position(rt: HostRuntime) {
     let mut bytes = blocks();
     let device = Image::new(&mut bytes);
     let mut buffer = [238; 64];
-    let told = page::<Image, StraightNumbers>(&device, 0, &[], &mut buffer);
+    let told = page::<Image<_>, StraightNumbers>(&device, 0, &[], &mut buffer);
     let answer = PageAnswer {
         count: 3,
         used: 34,
@@ -63,10 +63,14 @@ fn a_page_goes_on_after_its_bookmark(rt: HostRuntime) {
         used: 4,
         end: true,
     };
-    assert!(rt; page::<Image, StraightNumbers>(&device, 0, &[0, 0, 0, 1], &mut buffer) == Ok(two));
-    assert!(rt; page::<Image, StraightNumbers>(&device, 0, &[0, 0, 0, 5], &mut buffer) == Ok(one));
+    assert!(rt;
+        page::<Image<_>, StraightNumbers>(&device, 0, &[0, 0, 0, 1], &mut buffer) == Ok(two)
+    );
+    assert!(rt;
+        page::<Image<_>, StraightNumbers>(&device, 0, &[0, 0, 0, 5], &mut buffer) == Ok(one)
+    );
     assert_eq!(rt; &buffer[8..14], &HIGH[12..18]);
-    assert!(rt; page::<Image, StraightNumbers>(&device, 0, &[255; 4], &mut buffer) == Ok(none));
+    assert!(rt; page::<Image<_>, StraightNumbers>(&device, 0, &[255; 4], &mut buffer) == Ok(none));
     assert_eq!(rt; &buffer[0..4], &[0, 0, 1, 0][..]);
 }
 
@@ -77,19 +81,19 @@ fn a_refusal_leaves_the_buffer(rt: HostRuntime) {
     let mut short = [238; 63];
     let mut buffer = [238; 64];
     assert!(rt;
-        page::<Image, StraightNumbers>(&device, 0, &[], &mut short) == Err(PageError::Buffer)
+        page::<Image<_>, StraightNumbers>(&device, 0, &[], &mut short) == Err(PageError::Buffer)
     );
     assert!(rt;
-        page::<Image, StraightNumbers>(&device, 0, &[1], &mut short) == Err(PageError::Buffer)
+        page::<Image<_>, StraightNumbers>(&device, 0, &[1], &mut short) == Err(PageError::Buffer)
     );
     assert!(rt;
-        page::<Image, StraightNumbers>(&device, 0, &[1], &mut buffer) == Err(PageError::Bookmark)
+        page::<Image<_>, StraightNumbers>(&device, 0, &[1], &mut buffer) == Err(PageError::Bookmark)
     );
     assert!(rt;
-        page::<Image, StraightNumbers>(&device, 1, &[], &mut buffer) == Err(PageError::Broken)
+        page::<Image<_>, StraightNumbers>(&device, 1, &[], &mut buffer) == Err(PageError::Broken)
     );
     assert!(rt;
-        page::<Image, StraightNumbers>(&device, 9, &[], &mut buffer) == Err(PageError::Broken)
+        page::<Image<_>, StraightNumbers>(&device, 9, &[], &mut buffer) == Err(PageError::Broken)
     );
     assert_eq!(rt; short[0], 238);
     assert_eq!(rt; buffer[0], 238);
