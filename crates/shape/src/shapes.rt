@@ -32,6 +32,7 @@ fn weight_under(row: Row, prefix: u64, room: u8) -> u32
 
 // Whether the rows under a prefix that leaves `room` of the 7 bits fit into one bucket. The loop stops at the first
 // row too many, since the sum over all rows need not fit a number.
+#[tactic(auto, using(crate::proofs::Loads::load_none))]
 fn is_light(rows: &[Row], prefix: u64, room: u8) -> bool
     requires { room ≤ 7 }
     ensures { result ≡ is_light row_measure room prefix rows.now }
