@@ -30,7 +30,7 @@ module _ (k : Kind) (l : KeepsLaws k) (count : ℕ) where
   mark (x ∷ xs) h = lawful_name k (x ∷ xs) (rw (ne_eqb (suc (length xs)) 0 (λ e. omega arith)) at h)
 
   refused_not : {X : Type 0} (why : Refusal) (a : PageAnswer) → refused why ≡ page_given a → X
-  refused_not why a e = absurd (let w : ◌≡◌ {A = ℕ} 0 1 = cc in omega arith)
+  refused_not why a e = absurd (cc)
 
   fair_page : (f : ℕ) (b : List ℕ) (buffer : List ℕ) (allowance : ℕ) (s : State) → SoundState k count s → (rs : List (List ℕ)) (end : Bool) (a : PageAnswer)
       → (step k count (page f b) buffer allowance s).0 ≡ page_given a → a.end ≡ end → page_records (step k count (page f b) buffer allowance s).1 ≡ rs

@@ -1,10 +1,11 @@
 -- Records that are put into an index one after another.
-use Rattle.std.proofs.Common.{◌≡◌, ℕ, Bool, true, false, cond, List, [], ◌∷◌, ◌++◌, Some, filter, Option, Ordering, Less, Equal, Greater, sym, refl, ap, ◌∙◌, subst}
+use Rattle.std.proofs.Common.{◌≡◌, ℕ, true, false, cond, List, [], ◌∷◌, ◌++◌, Some, Option, Ordering, Less, Equal, Greater, sym, refl, ap, ◌∙◌, subst}
 use Rattle.std.specs.Ordering.{is_lt, is_le}
 use Rattle.std.specs.List.{AllByRecursion}
 use Rattle.kinds.specs.Kinds.{Kind, position}
 use Rattle.records.specs.Records.{key_of}
 use Rattle.records.specs.Ordered.{before, after, put}
+use Rattle.records.proofs.Kept.{kept_all, kept_none}
 use Rattle.model.specs.Trees.{find}
 use Rattle.model.specs.Indexes.{indexed}
 use Rattle.model.specs.Soundness.{KeepsLaws}
@@ -14,14 +15,6 @@ use Rattle.listings.specs.Indexes.{named}
 use Rattle.listings.specs.Listings.{is_after, Rising}
 use Rattle.listings.proofs.Places.{turn_back, eq_sym, lt_not, le_lt}
 use Rattle.listings.proofs.Rises.{Good, Mark, lt_true, true_lt, eq_le, less_le, alike_both, alike_on, is_mark, after_is, rising_all}
-
-pub kept_all : {X : Type 0} (test : X → Bool) (xs : List X) → AllByRecursion (λ x. test x ≡ true) xs → filter test xs ≡ xs
-kept_all test [] h = refl
-kept_all test (x ∷ xs) h = rw h.0 (ap (λ ys. x ∷ ys) (kept_all test xs h.1))
-
-kept_none : {X : Type 0} (test : X → Bool) (xs : List X) → AllByRecursion (λ x. test x ≡ false) xs → filter test xs ≡ []
-kept_none test [] h = refl
-kept_none test (x ∷ xs) h = rw h.0 (kept_none test xs h.1)
 
 not_lt : (o : Ordering) → is_le o ≡ false → is_lt o ≡ false
 not_lt Less e = e

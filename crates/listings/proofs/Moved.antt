@@ -1,5 +1,5 @@
 -- How the indexes change with a rename.
-use Rattle.std.proofs.Common.{◌≡◌, ℕ, ◌^◌, ◌<◌, true, false, not, ◌&&◌, List, [], ◌∷◌, map, Some, None, filter, sym, refl, ap, ◌∙◌, ⊎_elim, arith}
+use Rattle.std.proofs.Common.{◌≡◌, ℕ, ◌^◌, ◌<◌, true, false, not, ◌&&◌, List, [], ◌∷◌, map, Some, None, filter, sym, refl, ap, ◌∙◌, ⊎_elim}
 use Rattle.std.specs.Option.{option_map}
 use Rattle.std.specs.List.{AllByRecursion}
 use Rattle.std.proofs.ByRecursion.{all_kept_by}
@@ -45,7 +45,7 @@ module _ (k : Kind) (l : KeepsLaws k) (x g : ℕ) (m : List ℕ) (w : k.lawful m
 
   -- the target has the object under its new name
   find_new : (o : Object) (n : List ℕ) (os : List Object) → k.lawful n ≡ true → is_alike k n m ≡ true → Children k g os → AllByRecursion Free os → find (numbered x) os ≡ Some o → find (stands_as k g n) (map (moved x g m) os) ≡ Some (placed_at g m o)
-  find_new o n [] v a c h e = let z : None ≡ Some o = e in let u : ◌≡◌ {A = ℕ} 0 1 = cc in absurd (omega arith)
+  find_new o n [] v a c h e = let z : None ≡ Some o = e in absurd (cc)
   find_new o n (p ∷ ps) v a c h e =
       by_test (numbered x p)
       (λ t. let z : Some p ≡ Some o = rw t at e in let same : p ≡ o = cc in rw t (rw (eq-eqb g g refl, a) (ap (λ (q : Object). Some (placed_at g m q)) same)))

@@ -1,10 +1,11 @@
 -- Records that are taken out of an index, and indexes that have the same records.
-use Rattle.std.proofs.Common.{◌≡◌, ℕ, true, false, cond, not, List, [], ◌∷◌, ◌++◌, is_some, Some, None, filter, Option, Ordering, Less, Equal, Greater, sym, refl, ap, ◌∙◌, ap₂, arith}
+use Rattle.std.proofs.Common.{◌≡◌, ℕ, true, false, cond, not, List, [], ◌∷◌, ◌++◌, is_some, Some, None, filter, Option, Ordering, Less, Equal, Greater, sym, refl, ap, ◌∙◌, ap₂}
 use Rattle.std.specs.List.{AllByRecursion}
 use Rattle.std.proofs.ByRecursion.{all_kept_by}
 use Rattle.kinds.specs.Kinds.{Kind, position}
 use Rattle.records.specs.Records.{key_of}
 use Rattle.records.specs.Ordered.{before, after, without}
+use Rattle.records.proofs.Kept.{kept_all}
 use Rattle.model.specs.Trees.{is_alike, find}
 use Rattle.model.specs.Indexes.{indexed}
 use Rattle.model.specs.Soundness.{KeepsLaws}
@@ -13,7 +14,7 @@ use Rattle.listings.specs.Indexes.{named}
 use Rattle.listings.specs.Listings.{Rising}
 use Rattle.listings.proofs.Places.{self, turn_back, eq_sym, alike_equal, equal_alike}
 use Rattle.listings.proofs.Rises.{Good, lt_true, eq_le, less_le, alike_both, alike_on, alike_not, is_mark, after_is, rising_kept, found_after}
-use Rattle.listings.proofs.Indexed.{kept_all, past, after-all, before_none, after-cons, before-cons, good_indexed, rising_indexed, find-indexed}
+use Rattle.listings.proofs.Indexed.{past, after-all, before_none, after-cons, before-cons, good_indexed, rising_indexed, find-indexed}
 
 module _ (k : Kind) (l : KeepsLaws k) where
   unlike : (key x : List ℕ) → k.lawful key ≡ true → k.lawful (key_of x) ≡ true → (position k key (key_of x) ≡ Equal → ⊥) → named k key x ≡ false
@@ -22,7 +23,7 @@ module _ (k : Kind) (l : KeepsLaws k) where
   unlike_all : (key : List ℕ) (xs : List (List ℕ)) → k.lawful key ≡ true → Good k xs → AllByRecursion (λ x. position k key (key_of x) ≡ Less) xs → AllByRecursion (λ x. not (named k key x) ≡ true) xs
   unlike_all key [] w g h = tt
   unlike_all key (x ∷ xs) w g h =
-      (ap not (unlike key x w g.0 (λ e. let z : Less ≡ Equal = sym h.0 ∙ e in let y : ◌≡◌ {A = ℕ} 0 1 = cc in omega arith)), unlike_all key xs w g.1 h.1)
+      (ap not (unlike key x w g.0 (λ e. let z : Less ≡ Equal = sym h.0 ∙ e in cc)), unlike_all key xs w g.1 h.1)
 
   without_none : (key : List ℕ) → before k key [] ++ after k key [] ≡ []
   unfolding before after
@@ -44,7 +45,7 @@ module _ (k : Kind) (l : KeepsLaws k) where
           rw (before-cons k l key q qs, after-cons k l key q qs, e, eq_sym k l key (key_of q) w g.0 e, before_none k l key qs w g.1 all, after-all k l key qs all, equal_alike k l key (key_of q) e)
           (sym (kept_all _ qs (unlike_all key qs w g.1 all)))
       go Greater e h =
-          rw (before-cons k l key q qs, after-cons k l key q qs, e, turn_back k l (key_of q) key g.0 w e, unlike key q w g.0 (λ z. let y : Greater ≡ Equal = sym e ∙ z in let u : ◌≡◌ {A = ℕ} 0 1 = cc in omega arith))
+          rw (before-cons k l key q qs, after-cons k l key q qs, e, turn_back k l (key_of q) key g.0 w e, unlike key q w g.0 (λ z. let y : Greater ≡ Equal = sym e ∙ z in cc))
           (ap (λ xs. q ∷ xs) h)
 
   -- what is found where records are taken out
@@ -90,9 +91,9 @@ module _ (k : Kind) (l : KeepsLaws k) where
       → ((n : List ℕ) → k.lawful n ≡ true → find (named k n) xs ≡ find (named k n) ys) → xs ≡ ys
   same_records b c [] [] g d r s h = refl
   same_records b c [] (y ∷ ys) g d r s h =
-      let z : None ≡ Some y = h (key_of y) d.0 ∙ here y ys d.0 in let u : ◌≡◌ {A = ℕ} 0 1 = cc in absurd (omega arith)
+      let z : None ≡ Some y = h (key_of y) d.0 ∙ here y ys d.0 in absurd (cc)
   same_records b c (x ∷ xs) [] g d r s h =
-      let z : Some x ≡ None = sym (here x xs g.0) ∙ h (key_of x) g.0 in let u : ◌≡◌ {A = ℕ} 0 1 = cc in absurd (omega arith)
+      let z : Some x ≡ None = sym (here x xs g.0) ∙ h (key_of x) g.0 in absurd (cc)
   same_records b c (x ∷ xs) (y ∷ ys) g d r s h =
       go (position k (key_of x) (key_of y)) refl (same_records (key_of x) (key_of y) xs ys g.1 d.1 r.1 s.1)
     where
@@ -105,10 +106,10 @@ module _ (k : Kind) (l : KeepsLaws k) where
       go : (v : Ordering) → position k (key_of x) (key_of y) ≡ v → (((n : List ℕ) → k.lawful n ≡ true → find (named k n) xs ≡ find (named k n) ys) → xs ≡ ys) → x ∷ xs ≡ y ∷ ys
       go Less e f =
           let none = absent (key_of x) x (y ∷ ys) g.0 g.0 d (after_is k l (key_of x) (key_of y) g.0 ∙ lt_true _ e, s.1) (alike_self x g.0) in
-          let z : None ≡ Some x = sym none ∙ seen in let u : ◌≡◌ {A = ℕ} 0 1 = cc in absurd (omega arith)
+          let z : None ≡ Some x = sym none ∙ seen in absurd (cc)
       go Greater e f =
           let none = absent (key_of y) y (x ∷ xs) d.0 d.0 g (after_is k l (key_of y) (key_of x) d.0 ∙ lt_true _ (turn_back k l (key_of y) (key_of x) d.0 g.0 e), r.1) (alike_self y d.0) in
-          let z : None ≡ Some y = sym none ∙ met in let u : ◌≡◌ {A = ℕ} 0 1 = cc in absurd (omega arith)
+          let z : None ≡ Some y = sym none ∙ met in absurd (cc)
       go Equal e f =
           let one : Some y ≡ Some x = sym (rw (equal_alike k l (key_of x) (key_of y) e)) ∙ seen in
           let same : x ≡ y = cc in

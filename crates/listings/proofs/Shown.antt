@@ -129,7 +129,7 @@ module _ (k : Kind) (l : KeepsLaws k) where
       rw (key_entry o, rest, v, ← p)
 
   mapped_is : (found : Option Object) (r : List ℕ) → option_map entry_of found ≡ Some r → (o : Object) × ((found ≡ Some o) × (entry_of o ≡ r))
-  mapped_is None r e = let z : ◌≡◌ {A = ℕ} 0 1 = cc in absurd (omega arith)
+  mapped_is None r e = absurd (cc)
   mapped_is (Some o) r e = (o, (refl, cc))
 
   module _ (os : List Object) (f : ℕ) (c : Children k f os) (small : AllByRecursion (λ o. o.number < 2 ^ 32) os) (reg : AllByRecursion (λ o. find (numbered o.number) os ≡ Some o) os) where

@@ -1,5 +1,5 @@
 -- The first of a list that passes a test.
-use Rattle.std.proofs.Common.{◌≡◌, ℕ, Bool, true, false, List, [], ◌∷◌, is_some, Some, None, Option, sym, refl, ap, ◌∙◌, arith}
+use Rattle.std.proofs.Common.{◌≡◌, Bool, true, false, List, [], ◌∷◌, is_some, Some, None, Option, sym, refl, ap, ◌∙◌}
 use Rattle.std.specs.List.{AllByRecursion}
 use Rattle.model.specs.Trees.{find}
 
@@ -8,16 +8,16 @@ by_test true f g = f refl
 by_test false f g = g refl
 
 pub never : {X : Type 0} (b : Bool) → b ≡ true → b ≡ false → X
-never b p q = let z : true ≡ false = sym p ∙ q in let w : ◌≡◌ {A = ℕ} 0 1 = cc in absurd (omega arith)
+never b p q = absurd (cc)
 
 module _ {X : Type 0} (test : X → Bool) where
   pub found_passes : (xs : List X) (x : X) → find test xs ≡ Some x → test x ≡ true
-  found_passes [] x e = let z : ◌≡◌ {A = ℕ} 0 1 = cc in absurd (omega arith)
+  found_passes [] x e = absurd (cc)
   found_passes (y ∷ ys) x e =
       by_test (test y) (λ t. let z : Some y ≡ Some x = rw t at e in let w : y ≡ x = cc in ap test (sym w) ∙ t) (λ t. found_passes ys x (rw t at e))
 
   pub found_all : (P : X → Type 0) (xs : List X) (x : X) → AllByRecursion P xs → find test xs ≡ Some x → P x
-  found_all P [] x h e = let z : ◌≡◌ {A = ℕ} 0 1 = cc in absurd (omega arith)
+  found_all P [] x h e = absurd (cc)
   found_all P (y ∷ ys) x h e =
       by_test (test y) (λ t. let z : Some y ≡ Some x = rw t at e in let w : y ≡ x = cc in rw (← w) h.0) (λ t. found_all P ys x h.1 (rw t at e))
 

@@ -24,17 +24,17 @@ module _ (k : Kind) (count : ℕ) (buffer : List ℕ) where
   -- what gives a number, and how it leaves the next
   given : (s : State) (c : Call) (v : Option Refusal) (n : ℕ) → (settled v buffer s (serve k count buffer s c)).0 ≡ made n
       → ((tree_of s).next ≡ n) × From (n + 1) (settled v buffer s (serve k count buffer s c)).2
-  given s c (Some why) n e = let z : ◌≡◌ {A = ℕ} 0 1 = cc in absurd (omega arith)
-  given s format None n e = let z : ◌≡◌ {A = ℕ} 0 1 = cc in absurd (omega arith)
-  given s open' None n e = let z : ◌≡◌ {A = ℕ} 0 1 = cc in absurd (omega arith)
-  given s (lookup f m) None n e = let z : ◌≡◌ {A = ℕ} 0 1 = cc in absurd (omega arith)
+  given s c (Some why) n e = absurd (cc)
+  given s format None n e = absurd (cc)
+  given s open' None n e = absurd (cc)
+  given s (lookup f m) None n e = absurd (cc)
   given s (create f m kind) None n e = let z : (tree_of s).next ≡ n = cc in (z, omega arith)
-  given s (remove f m) None n e = let z : ◌≡◌ {A = ℕ} 0 1 = cc in absurd (omega arith)
-  given s (rename f m g i) None n e = let z : ◌≡◌ {A = ℕ} 0 1 = cc in absurd (omega arith)
-  given s tally None n e = let z : ◌≡◌ {A = ℕ} 0 1 = cc in absurd (omega arith)
-  given s (lease f) None n e = let z : ◌≡◌ {A = ℕ} 0 1 = cc in absurd (omega arith)
-  given s (page f b) None n e = let z : ◌≡◌ {A = ℕ} 0 1 = cc in absurd (omega arith)
-  given s (close f) None n e = let z : ◌≡◌ {A = ℕ} 0 1 = cc in absurd (omega arith)
+  given s (remove f m) None n e = absurd (cc)
+  given s (rename f m g i) None n e = absurd (cc)
+  given s tally None n e = absurd (cc)
+  given s (lease f) None n e = absurd (cc)
+  given s (page f b) None n e = absurd (cc)
+  given s (close f) None n e = absurd (cc)
 
   -- no call but format lowers the next number
   onward : (t : Tree) (out : ℕ) (c : Call) (v : Option Refusal) (n : ℕ) → n ≤ t.next → (c ≡ format → (settled v buffer (live t out) (serve k count buffer (live t out) c)).0 ≡ done → ⊥)
@@ -61,8 +61,8 @@ module _ (k : Kind) (count : ℕ) where
       onward k count b.buffer t out b.call (first_of (reasons k count (length b.buffer) b.allowance (live t out) b.call)) n h (λ x y. f (x, y))
 
   later : (s : State) (bs : List Brought) (between after : List Event) (f : Event) (m n : ℕ) → From m s → history k count s bs ≡ between ++ f ∷ after → AllByRecursion (λ x. Formats x → ⊥) between → f.answer ≡ made n → m ≤ n
-  later s [] [] after f m n h e a g = let z : ◌≡◌ {A = ℕ} 0 1 = cc in absurd (omega arith)
-  later s [] (x ∷ between) after f m n h e a g = let z : ◌≡◌ {A = ℕ} 0 1 = cc in absurd (omega arith)
+  later s [] [] after f m n h e a g = absurd (cc)
+  later s [] (x ∷ between) after f m n h e a g = absurd (cc)
   later s (b ∷ bs) [] after f m n h e a g =
       let same : event k count s b ≡ f = cc in
       let r = given_event s b n (ap (λ (x : Event). x.answer) same ∙ g) in
@@ -76,8 +76,8 @@ module _ (k : Kind) (count : ℕ) where
 
   once : (s : State) (bs : List Brought) (before between after : List Event) (e f : Event) (m n : ℕ) → history k count s bs ≡ before ++ e ∷ (between ++ f ∷ after)
       → e.answer ≡ made m → AllByRecursion (λ x. Formats x → ⊥) between → f.answer ≡ made n → m < n
-  once s [] [] between after e f m n h p a q = let z : ◌≡◌ {A = ℕ} 0 1 = cc in absurd (omega arith)
-  once s [] (x ∷ before) between after e f m n h p a q = let z : ◌≡◌ {A = ℕ} 0 1 = cc in absurd (omega arith)
+  once s [] [] between after e f m n h p a q = absurd (cc)
+  once s [] (x ∷ before) between after e f m n h p a q = absurd (cc)
   once s (b ∷ bs) [] between after e f m n h p a q =
       let same : event k count s b ≡ e = cc in
       let rest : history k count (event k count s b).left bs ≡ between ++ f ∷ after = cc in

@@ -25,7 +25,7 @@ use Rattle.model.proofs.Renames.{sound_renamed}
 pub none_hold : (rs : List Reason) → first_of rs ≡ None → AllByRecursion (λ r. r.1 ≡ false) rs
 none_hold [] e = tt
 none_hold (r ∷ rs) e =
-    by_test r.1 (λ h. let z : Some r.0 ≡ None = rw h at e in absurd (let w : ◌≡◌ {A = ℕ} 0 1 = cc in omega arith)) (λ h. (h, none_hold rs (rw h at e)))
+    by_test r.1 (λ h. let z : Some r.0 ≡ None = rw h at e in absurd (cc)) (λ h. (h, none_hold rs (rw h at e)))
 
 held_fresh : (k : Kind) → is_held_tree k fresh ≡ true
 unfolding is_held_tree is_held register_records folder_records put before after under prefix_of

@@ -17,6 +17,7 @@ pub struct Shape {
     pub depth: u8,
 }
 
+#[tactic(auto, unfolding(crate::specs::Shapes::prefix_of))]
 fn weight_under(row: Row, prefix: u64, room: u8) -> u32
     requires { room ≤ 7 }
     ensures value { result ≡ weight_under row_measure room prefix row }
@@ -29,7 +30,9 @@ fn weight_under(row: Row, prefix: u64, room: u8) -> u32
     }
 }
 
-// Whether the rows under a prefix that leaves `room` of the 7 bits fit into one bucket.
+// Whether the rows under a prefix that leaves `room` of the 7 bits fit into one bucket. The loop stops at the first
+// row too many, since the sum over all rows need not fit a number.
+#[tactic(auto, using(crate::proofs::Loads::load_none))]
 fn is_light(rows: &[Row], prefix: u64, room: u8) -> bool
     requires { room ≤ 7 }
     ensures { result ≡ is_light row_measure room prefix rows.now }
@@ -45,6 +48,7 @@ fn is_light(rows: &[Row], prefix: u64, room: u8) -> bool
 }
 
 // The shape of the rows under a prefix. Heavy prefixes are few, so that looking at all rows again costs little.
+#[tactic(auto, using(crate::proofs::Halves::small_halves))]
 fn shape_under(rows: &[Row], prefix: u64, room: u8) -> Option<Shape>
     requires deep { room ≤ 7 }
     requires small { (prefix + 1) * 2 ^ room ≤ 128 }

@@ -1,7 +1,7 @@
-use Rattle.std.proofs.Common.{◌+◌, ◌-◌, ◌*◌, ◌^◌, ◌<◌, ◌≤◌, sym, subst, arith, pow_mono, MatchOption}
+use Rattle.std.proofs.Common.{◌+◌, ◌-◌, ◌*◌, ◌^◌, ◌<◌, ◌≤◌, sym, subst, arith, pow_mono}
 use Rattle.std.proofs.lemmas.Bool.{leb-true, leb-false}
 use Rattle.shape.specs.Shapes.{load, Held}
-use Rattle.shape.specs.Rows.{row_measure, ShapeOf}
+use Rattle.shape.specs.Rows.{row_measure}
 use Rattle.shape.proofs.Halves.{small_halves, held_light, held_here, one_bucket, node, buckets_le, depth_le}
 use Rattle.shape.proofs.shapes.+shape_under.Goals as goal
 
@@ -24,24 +24,10 @@ returns-then-room-eq-LEAST_ROOM t c = λ held.
     let heavy = subst (λ k. 504 < load row_measure k p rows) z (leb-false _ _ (sym c.if-is_light.ensures)) in
     absurd (omega (arith, held_here row_measure rows p (subst (λ k. Held row_measure k p rows) z held)))
 
-pub overflow_mul-prefix : goal.overflow_mul-prefix
-overflow_mul-prefix t c = let l : 0 < c.args.room = omega (arith, c.if-room-eq-LEAST_ROOM.false) in omega (arith, (small_halves c.args.prefix c.args.room l c.requires.small).0)
-
-pub shape_under-requires : goal.shape_under-requires
-shape_under-requires t c =
-    let l : 0 < c.args.room = omega (arith, c.if-room-eq-LEAST_ROOM.false) in
-    (omega arith, (omega (arith, c.requires.deep), (small_halves c.args.prefix c.args.room l c.requires.small).1))
-
 pub returns-in_err-low : goal.returns-in_err-low
 returns-in_err-low t c =
     let n = node row_measure c.args.rows.now c.args.room c.args.prefix c.if-room-eq-LEAST_ROOM.false (sym c.if-is_light.ensures) in
-    subst (λ r. MatchOption r (Held row_measure c.args.room c.args.prefix c.args.rows.now → ⊥) (ShapeOf c.args.room c.args.prefix c.args.rows.now)) (sym c.from_residual.ensures) (λ held. c.in_err-low.ensures (n.low held))
-
-pub overflow_mul-prefix-2 : goal.overflow_mul-prefix-2
-overflow_mul-prefix-2 t c = let l : 0 < c.args.room = omega (arith, c.if-room-eq-LEAST_ROOM.false) in omega (arith, (small_halves c.args.prefix c.args.room l c.requires.small).0)
-
-pub overflow_add-prefix : goal.overflow_add-prefix
-overflow_add-prefix t c = let l : 0 < c.args.room = omega (arith, c.if-room-eq-LEAST_ROOM.false) in omega (arith, (small_halves c.args.prefix c.args.room l c.requires.small).0)
+    rw c.from_residual.ensures (λ held. c.in_err-low.ensures (n.low held))
 
 pub shape_under-requires-2 : goal.shape_under-requires-2
 shape_under-requires-2 t c =
@@ -51,7 +37,7 @@ shape_under-requires-2 t c =
 pub returns-in_err-high : goal.returns-in_err-high
 returns-in_err-high t c =
     let n = node row_measure c.args.rows.now c.args.room c.args.prefix c.if-room-eq-LEAST_ROOM.false (sym c.if-is_light.ensures) in
-    subst (λ r. MatchOption r (Held row_measure c.args.room c.args.prefix c.args.rows.now → ⊥) (ShapeOf c.args.room c.args.prefix c.args.rows.now)) (sym c.from_residual-in_err-high.ensures) (λ held. c.in_err-high.ensures (n.high held))
+    rw c.from_residual-in_err-high.ensures (λ held. c.in_err-high.ensures (n.high held))
 
 pub overflow_add-result : goal.overflow_add-result
 overflow_add-result t c =

@@ -1,13 +1,9 @@
-use Rattle.std.proofs.Common.{◌+◌, sym, ap, arith}
-use Rattle.std.proofs.lemmas.List.{take_all}
-use Rattle.std.proofs.lemmas.Bool.{lt-leb, le-leb}
+use Rattle.std.proofs.Common.{◌+◌, sym, arith}
+use Rattle.std.proofs.lemmas.Bool.{lt-leb}
 use Rattle.shape.specs.Shapes.{load}
 use Rattle.shape.specs.Rows.{row_measure}
-use Rattle.shape.proofs.Loads.{load_none, load_more, load-take}
+use Rattle.shape.proofs.Loads.{load_more, load-take}
 use Rattle.shape.proofs.shapes.is_light.Goals as goal
-
-pub loop-row-init : goal.loop-row-init
-loop-row-init c = (omega arith, sym (load_none row_measure c.args.room c.args.prefix))
 
 pub returns-then-load-gt-MAX_LOAD : goal.returns-then-load-gt-MAX_LOAD
 returns-then-load-gt-MAX_LOAD c =
@@ -23,9 +19,3 @@ pub loop-row-preserved : goal.loop-row-preserved
 loop-row-preserved c =
     let more = load_more row_measure c.args.room c.args.prefix c.args.rows.now c.loop-row.row-index (record { hash = 0; weight = 0 }) c.loop-row-test.true in
     (omega arith, omega (arith, c.weight_under-load.ensures))
-
-pub returns : goal.returns
-returns c =
-    let rows = c.args.rows.now in
-    let all = ap (load row_measure c.args.room c.args.prefix) (take_all c.loop-row.row-index rows (omega arith)) in
-    sym (le-leb (load row_measure c.args.room c.args.prefix rows) 504 (omega arith))
