@@ -1,5 +1,5 @@
 -- The header block after a plan.
-use Rattle.std.proofs.Common.{◌≡◌, ℕ, zero, suc, ◌+◌, ◌*◌, ◌/◌, ◌^◌, ◌<◌, ◌≤◌, true, false, List, ◌∷◌, length, get_or, sym, refl, ap, ◌∙◌, subst, ⊎_elim, arith, length-append}
+use Rattle.std.proofs.Common.{◌≡◌, ℕ, zero, suc, ◌+◌, ◌*◌, ◌/◌, ◌^◌, ◌<◌, true, false, List, ◌∷◌, length, get_or, sym, refl, ap, ◌∙◌, subst, ⊎_elim, arith, length-append}
 use Rattle.std.proofs.lemmas.List.{ext_get_or}
 use Rattle.std.proofs.lemmas.Bool.{cases_eq, cases_Bool}
 use Rattle.arrayvec.specs.ArrayVec.{array_vec_len}
@@ -10,10 +10,9 @@ use Rattle.shape.specs.Buckets.{room, leaves}
 use Rattle.shape.specs.Keyed.{by_key}
 use Rattle.shape.proofs.Rooms.{room_zero, room_takes, room_shared}
 use Rattle.shape.proofs.Leaves.{leaf, leaf_at, place_is, first_within, leaves_heavy}
-use Rattle.index.specs.Stored.{Blocks, block, slots, rooms, room_at, Stored}
+use Rattle.index.specs.Stored.{Blocks, block, slots, rooms, room_at}
 use Rattle.index.proofs.Reading.{length-slots, length-rooms, get_or-rooms}
 use Rattle.plans.specs.declared.plan.Plan.{Plan}
-use Rattle.plans.specs.Planned.{Planned, Spare}
 use Rattle.plans.proofs.Merges.{run_pointer}
 use Rattle.changes.specs.Relaying.{Relaid}
 use Rattle.changes.specs.Making.{Pending, Headed}

@@ -18,7 +18,6 @@ use Rattle.index.specs.Stored.{Blocks, block, slots, rooms, room_at, bucket_for,
 use Rattle.index.proofs.Reading.{length-slots, get_or-slots, length-rooms, get_or-rooms, slot_small}
 use Rattle.layout.proofs.Splits.{slot_prefix}
 use Rattle.plans.specs.declared.plan.Plan.{Plan}
-use Rattle.plans.specs.Planned.{Planned, Spare}
 use Rattle.plans.proofs.Merges.{run_pointer}
 use Rattle.changes.specs.Making.{Pending}
 use Rattle.changes.specs.Relaying.{Relaid, Lays}

@@ -21,9 +21,10 @@ fn apply<D: Device>(device: &mut D, head: u16, plan: Plan, spare: &[u16]) -> Res
     ensures costs { D.Device.allowed device.old ≤ D.Device.allowed device.new + 9 }
     ensures falls { D.Device.allowed device.new ≤ D.Device.allowed device.old }
 {
+    let taken = plan.taken();
     make(device, head, &plan, spare)?;
     Ok(Change {
-        taken: plan.taken(),
+        taken,
         given: plan.given,
     })
 }

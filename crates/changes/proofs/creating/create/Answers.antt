@@ -1,12 +1,12 @@
-use Rattle.std.proofs.Common.{◌≡◌, ℕ, ◌<◌, true, cond, length, set, replicate, is_ok, refl, ap, ◌∙◌, subst, arith, length-set}
-use Rattle.std.proofs.lemmas.Bool.{both_ways, cond-true, and_from, lt-ltb, eq-eqb}
+use Rattle.std.proofs.Common.{◌≡◌, ℕ, ◌<◌, true, cond, length, set, replicate, is_ok, ap, ◌∙◌, subst, arith, length-set}
+use Rattle.std.proofs.lemmas.Bool.{cond-true, and_from, lt-ltb, eq-eqb}
 use Rattle.header.specs.Headers.{Encodes, deepest}
 use Rattle.changes.specs.Creating.{Creatable}
 use Rattle.changes.proofs.Empties.{created}
 use Rattle.changes.proofs.creating.create.Goals as goal
 
-pub returns : goal.returns
-returns g c =
+pub returns-clause-creates : goal.returns-clause-creates
+returns-clause-creates g c = λ _ kind.
     let d = c.args.device.now in
     let before = g.D.Device.contents d in
     let head = c.args.head in
@@ -28,8 +28,7 @@ returns g c =
     let one : g.D.Device.contents mid ≡ set before bucket empty = c.write.ensures.sets ∙ cond-true _ _ _ first ∙ ap (λ n. set before n empty) c.from-2.ensures in
     let top : c.from-3.result < length (g.D.Device.contents mid) = omega (arith, c.from-3.ensures, w.top, ap length one, length-set before bucket empty) in
     let size2 : length header ≡ 512 = omega arith in
-    let cost = ap (λ t. cond {A = ℕ} t 1 0) first in
-    let free2 : 0 < g.D.Device.allowed mid = omega (arith, w.writes, c.write.ensures.costs, cost) in
+    let free2 : 0 < g.D.Device.allowed mid = omega (arith, w.writes, c.write.ensures.costs, ap (λ t. cond {A = ℕ} t 1 0) first) in
     let second : is_ok c.write-2.result ≡ true = c.write-2.ensures.served ∙ and_from _ _ (lt-ltb _ _ top) (and_from _ _ (eq-eqb _ _ size2) (lt-ltb _ _ free2)) in
     let two : g.D.Device.contents last ≡ set (set before bucket empty) head header
     = c.write-2.ensures.sets ∙ cond-true _ _ _ second ∙ ap (λ n. set (g.D.Device.contents mid) n header) c.from-3.ensures ∙ ap (λ x. set x head header) one in
@@ -38,11 +37,7 @@ returns g c =
     = subst (λ n. Encodes n (deepest (replicate 128 7)) (replicate 128 bucket) header) made.empty
     (subst (λ rs. Encodes c.single.result.count (deepest rs) (replicate 128 bucket) header) made.whole
     (subst (λ ss. Encodes c.single.result.count (deepest c.single.result.rooms) ss header) made.bucket c.encode-header.ensures)) in
-    record {
-      served = (λ _. w, λ _. refl);
-      creates = λ _ kind. created before (g.D.Device.contents last) (g.D.Device.allowed d) head bucket empty header w c.in_ok-empty.ensures enc two kind;
-      refused = λ f. absurd (both_ways true f refl);
-      keeps = g.D.Device.laws.onward d mid last c.write.ensures.keeps c.write-2.ensures.keeps;
-      costs = omega (arith, c.write.ensures.costs, c.write-2.ensures.costs, cost, ap (λ t. cond {A = ℕ} t 1 0) second);
-      falls = omega (arith, c.write.ensures.falls, c.write-2.ensures.falls);
-    }
+    created before (g.D.Device.contents last) (g.D.Device.allowed d) head bucket empty header w c.in_ok-empty.ensures enc two kind
+
+pub returns-clause-keeps : goal.returns-clause-keeps
+returns-clause-keeps g c = g.D.Device.laws.onward c.args.device.now c.write.new.self c.write-2.new.self c.write.ensures.keeps c.write-2.ensures.keeps
