@@ -1,2 +1,4 @@
 mod Heads
 mod Appending
+mod Newest
+mod Checked

@@ -36,6 +36,13 @@ valid bytes = nat_le 6 (length bytes) && (nat_le (start (used bytes)) (length by
 unfoldable pub head_of : List ℕ → Option Head
 head_of bytes = cond (valid bytes) (Some (record { used = used bytes; count = total bytes })) None
 
+-- whether record k is there and is for a block below n, and whether it is for block b
+abbrev pub holds_below : List ℕ → ℕ → ℕ → Bool
+holds_below bytes n k = nat_le (start k + 2) (length bytes) && nat_lt (number bytes k) n
+
+abbrev pub holds_for : List ℕ → ℕ → ℕ → Bool
+holds_for bytes b k = nat_le (start k + 2) (length bytes) && number bytes k == b
+
 -- what block b holds after the first n records: the last of them that is for b, or zeros
 abbrev pub latest : List ℕ → ℕ → ℕ → List ℕ
 latest bytes zero b = replicate 512 0

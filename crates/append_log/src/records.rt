@@ -1,6 +1,6 @@
 // A log's records in its bytes.
-ghost use Rattle.std.specs.Prelude.{◌≡◌, ℕ, ◌+◌, ◌^◌, ◌<◌, ◌≤◌, length, replicate, MatchOption, ◌==◌};
-ghost use Rattle.append_log.specs.Records.{start, number, body, head_of, latest, Appended};
+ghost use Rattle.std.specs.Prelude.{◌≡◌, ℕ, ◌+◌, ◌^◌, ◌<◌, ◌≤◌, length, replicate, MatchOption};
+ghost use Rattle.append_log.specs.Records.{start, body, head_of, holds_below, holds_for, latest, Appended};
 
 use crate::head::Head;
 use device::{BLOCK_SIZE, Bytes};
@@ -26,17 +26,21 @@ pub(crate) fn check(bytes: &[u8]) -> Option<Head>
     if bytes.len() < start_of(used) {
         return None;
     }
-    for k in 0..used {
-        if u16_at(bytes, start_of(k))? >= count {
-            return None;
-        }
-    }
-    Some(Head { used, count })
+    (0..used)
+        .all(|k| is_below(bytes, k, count))
+        .then_some(Head { used, count })
+}
+
+// Whether record k is for a block below `count`.
+fn is_below(bytes: &[u8], k: u32, count: u16) -> bool
+    ensures { result ≡ holds_below bytes.now count k }
+{
+    u16_at(bytes, start_of(k)).is_some_and(|number| number < count)
 }
 
 // Whether record k is for `block`.
 fn is_for(bytes: &[u8], k: u32, block: u32) -> bool
-    ensures { start k + 2 ≤ length bytes.now → result ≡ (number bytes.now k == block) }
+    ensures { result ≡ holds_for bytes.now block k }
 {
     u16_at(bytes, start_of(k)).is_some_and(|number| u32::from(number) == block)
 }
@@ -46,12 +50,7 @@ fn newest(bytes: &[u8], used: u32, block: u32) -> Option<u32>
     requires { start used ≤ length bytes.now }
     ensures { MatchOption result (latest bytes.now used block ≡ replicate 512 0) (λ k. (k < used) × (latest bytes.now used block ≡ body bytes.now k)) }
 {
-    for k in (0..used).rev() {
-        if is_for(bytes, k, block) {
-            return Some(k);
-        }
-    }
-    None
+    (0..used).rev().find(|k| is_for(bytes, *k, block))
 }
 
 // Copies what the first `used` records leave in a block into `buffer`.

@@ -1,8 +1,12 @@
-use Rattle.std.proofs.Common.{◌≡◌, ◌<◌, ◌≤◌, true, Some, sym, ap, ◌∙◌, arith}
-use Rattle.words.specs.BigEndian.{be16}
+use Rattle.std.proofs.Common.{◌≡◌, refl, sym, ap, ◌∙◌, arith, rules}
+use Rattle.std.specs.List.{range_with_len, list_all}
+use Rattle.std.specs.Bool.{then_some}
+use Rattle.std.proofs.lemmas.Iterator.{YieldsList-from_range}
+use Rattle.std.proofs.lemmas.Iterator.Search.{all_from_yields_List}
 use Rattle.words.proofs.Told.{word16_some, word16_none, word32_some, word32_none}
-use Rattle.append_log.specs.Records.{used, total, number, in_range, valid}
-use Rattle.append_log.specs.Replayed.{in_range_more, in_range_not, valid_is, short_head, short_records, head_of-valid, head_of_not}
+use Rattle.append_log.specs.Records.{holds_below}
+use Rattle.append_log.specs.Replayed.{short_head, short_records, head_of_not}
+use Rattle.append_log.proofs.Checked.{checked}
 use Rattle.append_log.proofs.records.check.Goals as goal
 
 pub returns-in_err-used : goal.returns-in_err-used
@@ -23,33 +27,12 @@ returns-then-bytes-start_of c =
     let u = word32_some xs 0 _ c.in_ok-used.ensures in
     sym (head_of_not xs (short_records xs (omega (arith, c.start_of.ensures))))
 
-pub returns-then-branch-count : goal.returns-then-branch-count
-returns-then-branch-count c =
-    let xs = c.args.bytes.now in
-    let k = c.loop-k.k in
-    let u = word32_some xs 0 _ c.in_ok-used.ensures in
-    let n = word16_some xs 4 _ c.in_ok-count.ensures in
-    let m = word16_some xs _ _ c.in_ok-u16_at.ensures in
-    let e = ap (be16 xs) c.start_of-in-loop-k.ensures in
-    let l : total xs ≤ number xs k = omega arith in
-    sym (head_of_not xs (valid_is xs (omega arith) (omega arith) ∙ in_range_not xs (used xs) k (omega arith) l))
-
-pub loop-k-preserved : goal.loop-k-preserved
-loop-k-preserved c =
-    let xs = c.args.bytes.now in
-    let k = c.loop-k.k in
-    let n = word16_some xs 4 _ c.in_ok-count.ensures in
-    let m = word16_some xs _ _ c.in_ok-u16_at.ensures in
-    let e = ap (be16 xs) c.start_of-in-loop-k.ensures in
-    let l : number xs k < total xs = omega arith in
-    in_range_more xs k c.loop-k.invariant l
-
 pub returns : goal.returns
 returns c =
     let xs = c.args.bytes.now in
     let u = word32_some xs 0 _ c.in_ok-used.ensures in
     let n = word16_some xs 4 _ c.in_ok-count.ensures in
-    let all : used xs ≡ c.loop-k.k = omega arith in
-    let v : valid xs ≡ true = valid_is xs (omega arith) (omega arith) ∙ ap (in_range xs) all ∙ c.loop-k.invariant in
-    let same : c.in_ok-count.count ≡ total xs = omega arith in
-    sym (head_of-valid xs v ∙ ap (λ k. Some (record { used = k; count = total xs })) (sym u.1) ∙ ap (λ k. Some (record { used = c.in_ok-used.used; count = k })) (sym same))
+    let all : c.all.result ≡ list_all (holds_below xs c.in_ok-count.count) (range_with_len 0 c.in_ok-used.used) =
+    all_from_yields_List (holds_below xs c.in_ok-count.count) _ _ c.all.result c.all.ensures.ran (YieldsList-from_range 0 c.in_ok-used.used c.in_ok-used.used refl (omega arith)) (λ x b q k. search rules)
+    in
+    c.then_some.ensures ∙ ap (λ b. then_some b (record { used = c.in_ok-used.used; count = c.in_ok-count.count })) all ∙ checked xs c.in_ok-used.used c.in_ok-count.count u.1 (omega arith) (omega arith) (omega arith)

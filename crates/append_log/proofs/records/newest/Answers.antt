@@ -1,23 +1,13 @@
-use Rattle.std.proofs.Common.{◌≡◌, ◌+◌, ◌-◌, sym, ap, ◌∙◌, arith}
-use Rattle.std.proofs.lemmas.Bool.{eqb-true, eqb-false}
-use Rattle.append_log.specs.Records.{number, latest}
-use Rattle.append_log.specs.Replayed.{latest_same, latest_other}
+use Rattle.std.proofs.Common.{ap, rules}
+use Rattle.std.specs.Iterator.Adapters.{rev_steps}
+use Rattle.std.proofs.lemmas.Iterator.Search.{find_from_yields_List}
+use Rattle.append_log.specs.Records.{holds_for}
+use Rattle.append_log.proofs.Newest.{back, yields_down, newest_told}
 use Rattle.append_log.proofs.records.newest.Goals as goal
 
-pub returns-then-is_for : goal.returns-then-is_for
-returns-then-is_for c =
+pub returns : goal.returns
+returns c =
     let xs = c.args.bytes.now in
-    let b = c.args.block in
-    let k = c.loop-k.k in
-    let up : k ≡ k - 1 + 1 = omega arith in
-    let is = eqb-true (number xs (k - 1)) b (sym (c.if-is_for.ensures (omega arith))) in
-    (omega arith, c.loop-k.invariant ∙ ap (λ j. latest xs j b) up ∙ latest_same xs (k - 1) b is)
-
-pub loop-k-preserved : goal.loop-k-preserved
-loop-k-preserved c =
-    let xs = c.args.bytes.now in
-    let b = c.args.block in
-    let k = c.loop-k.k in
-    let up : k ≡ k - 1 + 1 = omega arith in
-    let not = eqb-false (number xs (k - 1)) b (sym (c.if-is_for.ensures (omega arith))) in
-    c.loop-k.invariant ∙ ap (λ j. latest xs j b) up ∙ latest_other xs (k - 1) b not
+    let chain = yields_down c.args.used c.rev.result (ap (λ r. r.start) c.rev.ensures.source) (ap (λ r. r.end) c.rev.ensures.source) in
+    newest_told xs c.args.block c.args.used c.find.result c.requires
+    (find_from_yields_List {steps = rev_steps back} {s = c.rev.result} (holds_for xs c.args.block) c.find.new.self _ c.find.result c.find.ensures.ran (record { runs = chain }) (λ x b q k. search rules))
