@@ -1,4 +1,4 @@
-ghost use Rattle.std.specs.Prelude.{◌≡◌, ℕ, ◌+◌, ◌-◌, ◌*◌, ◌/◌, ◌%◌, ◌^◌, ◌<◌, ◌≤◌, List, length, IfSome, Some, Decides, MatchOption, slice_index};
+ghost use Rattle.std.specs.Prelude.{◌≡◌, ℕ, ◌+◌, ◌-◌, ◌*◌, ◌/◌, ◌%◌, ◌^◌, ◌<◌, ◌≤◌, List, IfSome, Some, MatchOption, slice_index};
 ghost use Rattle.header.specs.Headers.{IsRoom, deepest, byte_of, pointer_byte, slot_in, pointer_in, recounted, Encodes, Lawful};
 ghost use Rattle.words.specs.BigEndian.{word32};
 
