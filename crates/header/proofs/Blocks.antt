@@ -3,7 +3,7 @@ use Rattle.std.proofs.lemmas.List.{ext_get_or}
 use Rattle.std.proofs.lemmas.Bool.Decides.{nat_tests}
 use Rattle.std.proofs.lemmas.Bool.{cases_eq, cases_lt, eq-eqb, ne_eqb, eqb-true, lt-ltb, le-ltb, le-leb, and_from, and_right, cond-true, cond-false}
 use Rattle.std.proofs.lemmas.Nat.{shl-shr, shr-shr, pow-add, div-add-mod', shr_le}
-use Rattle.header.specs.Headers.{RunAt, deepest, byte_of, pointer_byte, slot_in, recounted, Encodes, Lawful}
+use Rattle.header.specs.Headers.{RunAt, IsRoom, deepest, byte_of, pointer_byte, slot_in, recounted, Encodes, Lawful}
 use Rattle.header.proofs.RunsLaws.{up}
 use Rattle.words.specs.BigEndian.{be32, bytes32}
 use Rattle.words.proofs.Overwritten.{length-put, put_below, put_inside, put_above}
@@ -164,7 +164,8 @@ module _ (count : ℕ) (slots rooms block : List ℕ) (law : Lawful count slots 
       ext_get_or 0 read slots (long ∙ sym law.slots_long) (λ i l. let m : i < 128 = omega arith in each i m ∙ slot_read d e i m)
 
   -- what the readings of the block come to
-  pub parts_read : (read found : List ℕ) → length read ≡ 128 → ((i : ℕ) → i < 128 → get_or read i 0 ≡ slot_in block (get_or block 1 0) i) → length found ≡ 128 → ((i : ℕ) → i < 128 → (k : ℕ) → k ≤ 7 → RunAt read k i → get_or found i 0 ≡ k) → (read ≡ slots) × (found ≡ rooms)
+  pub parts_read : (read found : List ℕ) → length read ≡ 128 → ((i : ℕ) → i < 128 → get_or read i 0 ≡ slot_in block (get_or block 1 0) i) → length found ≡ 128 → ((i : ℕ) → i < 128 → IsRoom read i (get_or found i 0)) → (read ≡ slots) × (found ≡ rooms)
+  unfolding IsRoom
   parts_read read found long each long' only =
       let e = slots_read (get_or block 1 0) read deep_read long each in (
         e,

@@ -20,6 +20,10 @@ RunAt slots k s = (t : ℕ) → t < 128 → (slice_index slots t == slice_index 
 abbrev pub LawfulAt : List ℕ → List ℕ → ℕ → Type 0
 LawfulAt slots rooms s = (slice_index rooms s ≤ 7) × RunAt slots (slice_index rooms s) s
 
+-- the room that a slot has if its run is lawful
+unfoldable pub IsRoom : List ℕ → ℕ → ℕ → Type 0
+IsRoom slots s room = (k : ℕ) → k ≤ 7 → RunAt slots k s → room ≡ k
+
 -- a slot is lawful, where those before it are; and all are
 unfoldable pub LawfulNext : List ℕ → List ℕ → ℕ → Type 0
 LawfulNext slots rooms s = ((t : ℕ) → t < s → LawfulAt slots rooms t) → LawfulAt slots rooms s

@@ -1,5 +1,5 @@
-ghost use Rattle.std.specs.Prelude.{◌≡◌, ℕ, ◌+◌, ◌-◌, ◌*◌, ◌/◌, ◌%◌, ◌^◌, ◌<◌, ◌≤◌, List, length, IfSome, Some, Decides, MatchOption, slice_index};
-ghost use Rattle.header.specs.Headers.{RunAt, deepest, byte_of, pointer_byte, slot_in, pointer_in, recounted, Encodes, Lawful};
+ghost use Rattle.std.specs.Prelude.{◌≡◌, ℕ, ◌+◌, ◌-◌, ◌*◌, ◌/◌, ◌%◌, ◌^◌, ◌<◌, ◌≤◌, List, IfSome, Some, MatchOption, slice_index};
+ghost use Rattle.header.specs.Headers.{IsRoom, deepest, byte_of, pointer_byte, slot_in, pointer_in, recounted, Encodes, Lawful};
 ghost use Rattle.words.specs.BigEndian.{word32};
 
 use crate::header::Header;
@@ -55,13 +55,9 @@ fn read_slots(block: &[u8; 512], deep: u8) -> [u16; 128]
 
 fn read_rooms(slots: &[u16; 128]) -> [u8; 128]
     ensures small { (i : ℕ) → i < 128 → slice_index result i ≤ 7 }
-    ensures only { (i : ℕ) → i < 128 → (k : ℕ) → k ≤ 7 → RunAt slots.now k i → slice_index result i ≡ k }
+    ensures only { (i : ℕ) → i < 128 → IsRoom slots.now i (slice_index result i) }
 {
-    let mut rooms = [0; 128];
-    for (slot, room) in rooms.iter_mut().enumerate() {
-        *room = room_of(slots, slot as u8);
-    }
-    rooms
+    array::from_fn(|slot| room_of(slots, slot as u8))
 }
 
 // The header of a block, if it is one.

@@ -1,5 +1,5 @@
 ghost use Rattle.std.specs.Prelude.{◌≡◌, ℕ, ◌/◌, ◌^◌, ◌<◌, ◌≤◌, Decides, ◌≢◌, true, bit_xor};
-ghost use Rattle.header.specs.Headers.{RunAt, LawfulAt, LawfulNext, AllLawful};
+ghost use Rattle.header.specs.Headers.{RunAt, IsRoom, LawfulAt, LawfulNext, AllLawful};
 
 // Whether the run of slot s has just the slots that share its prefix.
 fn is_run(slots: &[u16; 128], room: u8, s: usize) -> bool
@@ -23,7 +23,7 @@ pub fn buddy(slot: u8, room: u8) -> u8
 pub(crate) fn room_of(slots: &[u16; 128], slot: u8) -> u8
     requires { slot < 128 }
     ensures small { result ≤ 7 }
-    ensures only { (k : ℕ) → k ≤ 7 → RunAt slots.now k slot → result ≡ k }
+    ensures only { IsRoom slots.now slot result }
 {
     let bucket = slots[usize::from(slot)];
     (0..7)

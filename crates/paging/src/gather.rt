@@ -78,6 +78,7 @@ pub(crate) fn gather<D: Device, K: KeyKind>(
     ensures took { (head : ℕ) (rs : List (List ℕ)) → Stored K.KeyKind.kind (D.Device.contents device.now) head rs → header.now ≡ slice_index_or (D.Device.contents device.now) head [] → is_bookmark K.KeyKind.kind bookmark.now ≡ true → MatchResult result (λ whole. Took page.old.size (gathered page.old) (following K.KeyKind.kind bookmark.now rs) (gathered page.new) whole) (λ _. ⊥) }
 {
     let mut slot = first_slot::<K>(bookmark);
+    // No range of slots: each bucket that was read says where the next one begins.
     while slot < SLOTS {
         let block = bucket_of(device, header, slot)?;
         let room = room_in(&block)?;

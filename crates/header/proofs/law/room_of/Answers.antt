@@ -1,10 +1,12 @@
 use Rattle.std.proofs.Common.{◌≡◌, ℕ, ◌^◌, ◌<◌, true, false, eqb, get_or, refl, rules, arith}
 use Rattle.std.proofs.iter.runs.Sources.{ranges}
 use lib.Bits.{bit_xor}
+use Rattle.header.specs.Headers.{IsRoom}
 use Rattle.header.proofs.RunsLaws.{room_told}
 use Rattle.header.proofs.law.room_of.Goals as goal
 
 pub returns-clause-only : goal.returns-clause-only
+unfolding IsRoom
 returns-clause-only c =
     let slots = c.args.slots.now in
     let s = c.args.slot in
