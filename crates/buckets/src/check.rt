@@ -32,7 +32,7 @@ fn fits_at<K: KeyKind>(prefix: Prefix, block: &[u8], n: usize) -> bool
     n == 0 || matches!(bucket_key(block, n - 1), Some(before) if hashed.order_of(before).is_lt())
 }
 
-// Whether every record fits at its place.
+// Whether every record fits at its place. A loop, since what is known of one record is needed at the next.
 fn all_fit<K: KeyKind>(prefix: Prefix, block: &[u8]) -> bool
     ensures { Decides result ((n : ℕ) → n < length (records_in block.now) → FitsAt K.KeyKind.kind prefix (records_in block.now) n) }
 {
