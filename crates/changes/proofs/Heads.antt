@@ -34,10 +34,10 @@ module _ {kind : Kind} {blocks : Blocks} {head : ℕ} {old new : List (List ℕ)
   pub headed : (slots' rooms' after : List ℕ) (count : ℕ) → Relaid kind new plan.room (plan.slot / 2 ^ plan.room) (plan.number ∷ spare) (slots (block blocks head)) (rooms kind old) slots' rooms'
       → length slots' ≡ 128 → length rooms' ≡ 128 → count ≡ length new → Encodes count (deepest rooms') slots' after → Headed kind (block blocks head) old new plan spare after
   headed slots' rooms' after count rl sl rlen c enc =
-      let are = rooms-are due slots' rooms' rl rlen in
-      let law = lawful-new due slots' rooms' rl sl due.planned.countable in
+      let are = rooms-are due rl rlen in
+      let law = lawful-new due rl sl due.planned.countable in
       let enc' : Encodes (length new) (deepest (rooms kind new)) slots' after = subst (λ r. Encodes (length new) (deepest r) slots' after) are (subst (λ n. Encodes n (deepest rooms') slots' after) c enc) in
-      let told = slots-told due slots' rooms' rl after law enc' in
+      let told = slots-told due rl after law enc' in
       record {
         bytes = subst (λ xs. Encodes (length new) (deepest (rooms kind new)) xs after) (sym told) enc';
         relaid = subst (λ xs. Relaid kind new plan.room (plan.slot / 2 ^ plan.room) (plan.number ∷ spare) (slots (block blocks head)) (rooms kind old) xs (rooms kind new)) (sym told)
@@ -47,8 +47,8 @@ module _ {kind : Kind} {blocks : Blocks} {head : ℕ} {old new : List (List ℕ)
   pub lawful_parts : (slots' rooms' : List ℕ) → Relaid kind new plan.room (plan.slot / 2 ^ plan.room) (plan.number ∷ spare) (slots (block blocks head)) (rooms kind old) slots' rooms'
       → length slots' ≡ 128 → length rooms' ≡ 128 → Lawful plan.count slots' rooms'
   lawful_parts slots' rooms' rl sl rlen =
-      let are = rooms-are due slots' rooms' rl rlen in
-      subst (λ n. Lawful n slots' rooms') (sym due.planned.counted) (subst (Lawful (length new) slots') (sym are) (lawful-new due slots' rooms' rl sl due.planned.countable))
+      let are = rooms-are due rl rlen in
+      subst (λ n. Lawful n slots' rooms') (sym due.planned.counted) (subst (Lawful (length new) slots') (sym are) (lawful-new due rl sl due.planned.countable))
 
   -- one bucket in place of one with the same prefix: no slot is named anew
   module _ (one : array_vec_len plan.laid ≡ 1) (same : plan.room ≡ plan.start) where

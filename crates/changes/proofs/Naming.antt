@@ -1,9 +1,8 @@
 -- Slots that name the buckets of the new records: they are a lawful header's.
-use Rattle.std.proofs.Common.{◌≡◌, ℕ, zero, suc, ◌+◌, ◌*◌, ◌/◌, ◌^◌, ◌<◌, ◌≤◌, true, cond, eqb, List, [], ◌∷◌, length, get_or, sym, refl, ap, ◌∙◌, subst, ⊎_elim, add-mul, arith}
+use Rattle.std.proofs.Common.{◌≡◌, ℕ, zero, suc, ◌+◌, ◌*◌, ◌/◌, ◌^◌, ◌<◌, ◌≤◌, true, cond, eqb, List, [], ◌∷◌, length, get_or, sym, refl, ap, ◌∙◌, subst, ⊎_elim, arith}
 use Rattle.std.proofs.ByRecursion.{All-get_or}
 use Rattle.std.proofs.lemmas.List.{get_or-map, length-map, ext_get_or}
 use Rattle.std.proofs.lemmas.Bool.{cases_eq, cases_lt, both_ways, eq-eqb, ne_eqb, eqb-true}
-use Rattle.std.proofs.lemmas.Nat.{pow_pos}
 use Rattle.arrayvec.specs.ArrayVec.{array_vec_len}
 use Rattle.kinds.specs.Kinds.{Kind}
 use Rattle.buckets.specs.Blocks.{bucket_bytes}
@@ -16,7 +15,7 @@ use Rattle.shape.proofs.Rooms.{prefix_up, room_le, room_light, room_skip, bucket
 use Rattle.shape.proofs.Leaves.{leaf, place_of, leaf_at, place_is, first_within, length-leaves}
 use Rattle.index.specs.Stored.{Blocks, block, slots, rooms, room_at, bucket_for, bucket_at, prefix_at, Stored, pointers, home, times}
 use Rattle.index.proofs.Reading.{length-slots, get_or-slots, length-rooms, get_or-rooms, slot_small}
-use Rattle.layout.proofs.Splits.{slot_prefix}
+use Rattle.layout.proofs.Splits.{slot_prefix, first_small}
 use Rattle.plans.specs.declared.plan.Plan.{Plan}
 use Rattle.plans.proofs.Merges.{run_pointer}
 use Rattle.changes.specs.Making.{Pending}
@@ -37,13 +36,11 @@ times_twice (x ∷ xs) zero (suc j) l b e = let t = eq-eqb (get_or xs j 0) x (sy
 times_twice (x ∷ xs) (suc i) zero l b e = absurd (omega arith)
 times_twice (x ∷ xs) (suc i) (suc j) l b e = omega (arith, times_twice xs i j (omega arith) (omega arith) e)
 
-module _ (kind : Kind) (blocks : Blocks) (head : ℕ) (old : List (List ℕ)) (st : Stored kind blocks head old) where
-  pub first_small : (i : ℕ) → i < length (leaves (by_key kind) 7 0 old) → first_slot (get_or (leaves (by_key kind) 7 0 old) i (leaf 0 0)) < 128
-  first_small i l =
+module _ {kind : Kind} {blocks : Blocks} {head : ℕ} {old : List (List ℕ)} (st : Stored kind blocks head old) where
+  first_inside : (i : ℕ) → i < length (leaves (by_key kind) 7 0 old) → first_slot (get_or (leaves (by_key kind) 7 0 old) i (leaf 0 0)) < 128
+  first_inside i l =
       let x = get_or (leaves (by_key kind) 7 0 old) i (leaf 0 0) in
-      let w = All-get_or (λ x. (x.room ≤ 7) × ((x.prefix + 1) * 2 ^ x.room ≤ (0 + 1) * 2 ^ 7)) (leaves (by_key kind) 7 0 old) i (leaf 0 0) l (leaves_within (by_key kind) old 7 0) in
-      let e : (x.prefix + 1) * 2 ^ x.room ≡ x.prefix * 2 ^ x.room + 2 ^ x.room = add-mul x.prefix 1 (2 ^ x.room) ∙ omega arith in
-      omega (arith, w.1, e, pow_pos x.room)
+      first_small x.room x.prefix (All-get_or (λ x. (x.room ≤ 7) × ((x.prefix + 1) * 2 ^ x.room ≤ (0 + 1) * 2 ^ 7)) (leaves (by_key kind) 7 0 old) i (leaf 0 0) l (leaves_within (by_key kind) old 7 0)).1
 
   -- each pointer names a block of the index
   pub pointer_home : (s : ℕ) → s < 128 → 1 ≤ times (get_or (slots (block blocks head)) s 0) (home kind blocks head old)
@@ -56,7 +53,7 @@ module _ (kind : Kind) (blocks : Blocks) (head : ℕ) (old : List (List ℕ)) (s
       let near : first_slot x / 2 ^ room_at kind old s ≡ s / 2 ^ room_at kind old s
       = subst (λ y. first_slot y / 2 ^ room_at kind old s ≡ s / 2 ^ room_at kind old s) (sym at.1) (first_within (room_at kind old s) (s / 2 ^ room_at kind old s)) in
       let same : get_or (pointers (block blocks head) ls) i 0 ≡ get_or S s 0
-      = get_or-map (λ y. get_or S (first_slot y) 0) ls i (leaf 0 0) 0 at.0 ∙ run_pointer st s (first_slot x) l (first_small i at.0) near in
+      = get_or-map (λ y. get_or S (first_slot y) 0) ls i (leaf 0 0) 0 at.0 ∙ run_pointer st s (first_slot x) l (first_inside i at.0) near in
       let one = times_at (pointers (block blocks head) ls) i (omega (arith, at.0, length-map ls (λ y. get_or S (first_slot y) 0))) in
       omega (arith, subst (λ b. 1 ≤ times b (pointers (block blocks head) ls)) same one)
 
@@ -111,7 +108,7 @@ module _ {kind : Kind} {blocks : Blocks} {head : ℕ} {old new : List (List ℕ)
       let R = room_at kind old s in
       ap (bucket_bytes (prefix_at R (s / 2 ^ R))) b.1 ∙ ap (λ n. bucket_at kind new n (s / 2 ^ n)) b.0
 
-  module _ (slots' rooms' : List ℕ) (rl : Relaid kind new K p ns S (rooms kind old) slots' rooms') where
+  module _ {slots' rooms' : List ℕ} (rl : Relaid kind new K p ns S (rooms kind old) slots' rooms') where
     pub pointer-on : (s : ℕ) → s < 128 → s / 2 ^ K ≡ p → get_or slots' s 0 ≡ get_or ns (place_of (by_key kind) K p new s) 0
     pointer-on s l e =
         let at = leaf_at (by_key kind) K p new s (leaf 0 0) e in
@@ -136,7 +133,7 @@ module _ {kind : Kind} {blocks : Blocks} {head : ℕ} {old new : List (List ℕ)
     pub apart : (i j : ℕ) → i < j → j < array_vec_len plan.laid → get_or ns i 0 ≡ get_or ns j 0 → ⊥
     apart i zero l b e = absurd (omega arith)
     apart zero (suc j) l b e =
-        let n = pointer_home kind blocks head old due.stored plan.slot due.planned.slot in
+        let n = pointer_home due.stored plan.slot due.planned.slot in
         let m = times_at spare j (omega arith) in
         let z : get_or S plan.slot 0 ≡ get_or spare j 0 = sym due.planned.number ∙ e in
         omega (arith, m, subst (λ x. 1 ≤ times x (home kind blocks head old)) z n, due.spared.apart (get_or spare j 0))
@@ -150,7 +147,7 @@ module _ {kind : Kind} {blocks : Blocks} {head : ℕ} {old new : List (List ℕ)
         ne (prefix_up (room_at kind old plan.slot) K t plan.slot old_room (eqb-true _ _ (sym r ∙ eq-eqb _ _ z)))
     elsewhere (suc i) t l lt ne e =
         let m = times_at spare i (omega arith) in
-        let n = pointer_home kind blocks head old due.stored t lt in
+        let n = pointer_home due.stored t lt in
         omega (arith, m, subst (λ x. 1 ≤ times x (home kind blocks head old)) (sym e) n, due.spared.apart (get_or spare i 0))
 
     pub place-small : (s : ℕ) → s / 2 ^ K ≡ p → place_of (by_key kind) K p new s < array_vec_len plan.laid

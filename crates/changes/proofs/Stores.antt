@@ -1,7 +1,6 @@
 -- A plan that was written: the blocks store the new records.
-use Rattle.std.proofs.Common.{◌≡◌, ℕ, zero, suc, ◌+◌, ◌-◌, ◌*◌, ◌/◌, ◌^◌, ◌<◌, ◌≤◌, cond, eqb, List, [], ◌∷◌, ◌++◌, map, length, get_or, take, drop, set, sym, refl, ap, ◌∙◌, subst, ⊎_elim, add-mul, arith, length-set}
+use Rattle.std.proofs.Common.{◌≡◌, ℕ, zero, suc, ◌+◌, ◌-◌, ◌*◌, ◌/◌, ◌^◌, ◌<◌, ◌≤◌, cond, eqb, List, [], ◌∷◌, ◌++◌, map, length, get_or, take, drop, set, sym, refl, ap, ◌∙◌, subst, ⊎_elim, arith, length-set}
 use Rattle.std.specs.List.{AllByRecursion}
-use Rattle.std.proofs.lemmas.Nat.{pow_pos}
 use Rattle.std.proofs.ByRecursion.{All-get_or}
 use Rattle.std.proofs.lemmas.List.{get_or-set_same, get_or-set_other, get_or-map, length-map, length-take, get_or-take, map-append, take-append-drop, ext_get_or}
 use Rattle.std.proofs.lemmas.Bool.{cases_eq, eq-eqb}
@@ -13,6 +12,7 @@ use Rattle.shape.specs.Keyed.{by_key}
 use Rattle.shape.proofs.Leaves.{leaf, place_of, first_within, around}
 use Rattle.index.specs.Stored.{Blocks, block, slots, rooms, room_at, bucket_for, Stored, pointers, home, times}
 use Rattle.index.proofs.Reading.{slot_small}
+use Rattle.layout.proofs.Splits.{first_small}
 use Rattle.layout.specs.Laid.{leaf_block}
 use Rattle.plans.specs.declared.plan.Plan.{Plan}
 use Rattle.plans.specs.Planned.{Planned, Spare, Changed}
@@ -71,7 +71,7 @@ module _ {kind : Kind} {before : Blocks} {head : ℕ} {old new : List (List ℕ)
   -- the blocks after buckets and header were written
   module _ (header : List ℕ) (hd : Headed kind (block before head) old new plan spare header) where
     distinct : (i j : ℕ) → i < j → j < length plan.laid.items → get_or (plan.number ∷ spare) i 0 ≡ get_or (plan.number ∷ spare) j 0 → ⊥
-    distinct i j l b e = apart due (slots header) (rooms kind new) hd.relaid i j l (omega (arith, b)) e
+    distinct i j l b e = apart due hd.relaid i j l (omega (arith, b)) e
 
     all_there : (i : ℕ) → i < length plan.laid.items → get_or (plan.number ∷ spare) i 0 < length before
     all_there i l = there i (omega arith)
@@ -127,10 +127,10 @@ module _ {kind : Kind} {before after : Blocks} {head : ℕ} {old new : List (Lis
   S' = slots header
 
   on : (s : ℕ) → s < 128 → s / 2 ^ K ≡ p → get_or S' s 0 ≡ get_or ns (place_of (by_key kind) K p new s) 0
-  on = pointer-on due S' (rooms kind new) hd.relaid
+  on = pointer-on due hd.relaid
 
   small : (s : ℕ) → s / 2 ^ K ≡ p → place_of (by_key kind) K p new s < array_vec_len plan.laid
-  small = place-small due S' (rooms kind new) hd.relaid
+  small = place-small due hd.relaid
 
   off : (s : ℕ) → s < 128 → (s / 2 ^ K ≡ p → ⊥) → get_or S' s 0 ≡ get_or (slots (block before head)) s 0
   off s l ne = (hd.relaid.off s l ne).0
@@ -148,11 +148,11 @@ module _ {kind : Kind} {before after : Blocks} {head : ℕ} {old new : List (Lis
       let li : i < length plan.laid.items = omega (arith, small s e) in
       let m : i < length L = omega (arith, small s e, (long_new due)) in
       ap (block after) (on s l e) ∙ w.at i li ∙ ap (λ bs. get_or bs i []) due.planned.laid.blocks ∙ get_or-map (leaf_block kind new) L i (leaf 0 0) [] m
-      ∙ ap (leaf_block kind new) (leaf-of due S' (rooms kind new) hd.relaid s e))
+      ∙ ap (leaf_block kind new) (leaf-of due hd.relaid s e))
       (λ (ne : s / 2 ^ K ≡ p → ⊥).
       ap (block after) (off s l ne)
       ∙ w.off (get_or (slots (block before head)) s 0) (due.stored.beside s l)
-      (λ i li z. elsewhere due S' (rooms kind new) hd.relaid i s (omega (arith, li)) l ne (sym z))
+      (λ i li z. elsewhere due hd.relaid i s (omega (arith, li)) l ne (sym z))
       ∙ due.stored.leads s l ∙ bucket_same due s ne)
       (cases_eq (s / 2 ^ K) p)
 
@@ -173,7 +173,7 @@ module _ {kind : Kind} {before after : Blocks} {head : ℕ} {old new : List (Lis
         header = subst (λ x. Encodes (length new) (deepest (rooms kind new)) (slots x) x) (sym h) hd.bytes;
         within = subst (λ x. (s : ℕ) → s < 128 → get_or (slots x) s 0 < length after) (sym h) within;
         leads = subst (λ x. (s : ℕ) → s < 128 → block after (get_or (slots x) s 0) ≡ bucket_for kind new s) (sym h) leads;
-        runs = subst (λ x. (s : ℕ) → s < 128 → RunAt (slots x) (room_at kind new s) s) (sym h) (runs-new due S' (rooms kind new) hd.relaid);
+        runs = subst (λ x. (s : ℕ) → s < 128 → RunAt (slots x) (room_at kind new s) s) (sym h) (runs-new due hd.relaid);
         beside = subst (λ x. (s : ℕ) → s < 128 → get_or (slots x) s 0 ≡ head → ⊥) (sym h) beside;
       }
 
@@ -181,14 +181,9 @@ module _ {kind : Kind} {before after : Blocks} {head : ℕ} {old new : List (Lis
   abbrev Small : Leaf → Type 0
   Small x = (x.room ≤ 7) × ((x.prefix + 1) * 2 ^ x.room ≤ (0 + 1) * 2 ^ 7)
 
-  first_small : (x : Leaf) → Small x → first_slot x < 128
-  first_small x h =
-      let e : (x.prefix + 1) * 2 ^ x.room ≡ x.prefix * 2 ^ x.room + 2 ^ x.room = add-mul x.prefix 1 (2 ^ x.room) ∙ omega arith in
-      omega (arith, h.1, e, pow_pos x.room)
-
   same_pointers : (xs : List Leaf) → AllByRecursion Small xs → AllByRecursion (λ x. first_slot x / 2 ^ K ≡ p → ⊥) xs → pointers header xs ≡ pointers (block before head) xs
   same_pointers [] a b = refl
-  same_pointers (x ∷ xs) a b = ap (λ n. n ∷ pointers header xs) (off (first_slot x) (first_small x a.0) b.0) ∙ ap (λ ys. get_or (slots (block before head)) (first_slot x) 0 ∷ ys) (same_pointers xs a.1 b.1)
+  same_pointers (x ∷ xs) a b = ap (λ n. n ∷ pointers header xs) (off (first_slot x) (first_small x.room x.prefix a.0.1) b.0) ∙ ap (λ ys. get_or (slots (block before head)) (first_slot x) 0 ∷ ys) (same_pointers xs a.1 b.1)
 
   new_pointers : AllByRecursion Small L → pointers header L ≡ take (array_vec_len plan.laid) ns
   new_pointers sm =
@@ -199,7 +194,7 @@ module _ {kind : Kind} {before after : Blocks} {head : ℕ} {old new : List (Lis
       (λ i l.
       let m : i < length L = omega (arith, l, length-map L f) in
       let x = get_or L i (leaf 0 0) in
-      let sx = first_small x (All-get_or Small L i (leaf 0 0) m sm) in
+      let sx = first_small x.room x.prefix (All-get_or Small L i (leaf 0 0) m sm).1 in
       get_or-map f L i (leaf 0 0) 0 m ∙ (hd.relaid.on i (first_slot x) m m sx (first_within x.room x.prefix)).0 ∙ sym (get_or-take (array_vec_len plan.laid) ns i 0 (omega (arith, m, ll))))
 
   count_parts : (x : ℕ) (h : List ℕ) (A M B : List Leaf) → times x (pointers h (A ++ (M ++ B))) ≡ times x (pointers h A) + (times x (pointers h M) + times x (pointers h B))
@@ -249,7 +244,7 @@ module _ {kind : Kind} {before after : Blocks} {head : ℕ} {old new : List (Lis
 
       taken_not : (b : ℕ) → times b (home kind before head old) + times b (take (array_vec_len plan.laid - 1) spare) ≡ 0 → (i : ℕ) → i < array_vec_len plan.laid → b ≡ get_or ns i 0 → ⊥
       taken_not b none zero l e =
-          let n = pointer_home kind before head old due.stored plan.slot due.planned.slot in
+          let n = pointer_home due.stored plan.slot due.planned.slot in
           omega (arith, none, subst (λ x. 1 ≤ times x (home kind before head old)) (sym (e ∙ due.planned.number)) n)
       taken_not b none (suc i) l e =
           let m = times_at (take (array_vec_len plan.laid - 1) spare) i (omega (arith, length-take (array_vec_len plan.laid - 1) spare, due.enough, l)) in

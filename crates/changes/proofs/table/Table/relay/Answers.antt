@@ -13,11 +13,11 @@ use Rattle.changes.proofs.Relays.{leaves_within, leaf_room, leaf_first, leaf-run
 use Rattle.changes.proofs.table.Table.relay.Goals as goal
 
 -- bucket i of those under a prefix
-module _ (kind : Kind) (new : List (List ℕ)) (k p : ℕ) (ns : List ℕ) (bs : List (List ℕ)) (y : Lays kind new k p ns bs) where
+module _ {kind : Kind} {new : List (List ℕ)} {k p : ℕ} {ns : List ℕ} {bs : List (List ℕ)} (y : Lays kind new k p ns bs) where
   pub laid-long : length bs ≡ length (leaves (by_key kind) k p new)
   laid-long = ap length y.laid ∙ length-map (leaves (by_key kind) k p new) (leaf_block kind new)
 
-  module _ (i : ℕ) (l : i < length bs) (block : List ℕ) (e : block ≡ get_or bs i []) where
+  module _ {i : ℕ} (l : i < length bs) {block : List ℕ} (e : block ≡ get_or bs i []) where
     abbrev x : Leaf
     x = get_or (leaves (by_key kind) k p new) i (leaf 0 0)
 
@@ -63,11 +63,11 @@ loop-number-preserved c = λ kind new k p y.
     let now = c.name.new.self in
     let leaf-i = get_or (leaves (by_key kind) k p new) i (leaf 0 0) in
     let named = c.in_ok-name.ensures in
-    let slots = λ (s : ℕ). named.0 s ∙ filled_is kind new k p ns bs y i turn.1 block (turn.3 []) number was.slots s in
-    let rooms = λ (s : ℕ). named.1 s ∙ filled_is kind new k p ns bs y i turn.1 block (turn.3 []) (room_in block) was.rooms s
-    ∙ ap (λ v. filled_at (first_slot leaf-i) (first_slot leaf-i + 2 ^ leaf-i.room) v was.rooms s) (room_same kind new k p ns bs y i turn.1 block (turn.3 [])) in
+    let slots = λ (s : ℕ). named.0 s ∙ filled_is y turn.1 (turn.3 []) number was.slots s in
+    let rooms = λ (s : ℕ). named.1 s ∙ filled_is y turn.1 (turn.3 []) (room_in block) was.rooms s
+    ∙ ap (λ v. filled_at (first_slot leaf-i) (first_slot leaf-i + 2 ^ leaf-i.room) v was.rooms s) (room_same y turn.1 (turn.3 [])) in
     let inv = c.loop-number.invariant kind new k p y in
-    let here = inside kind new k p ns bs y i turn.1 block (turn.3 []) in (
+    let here = inside y turn.1 (turn.3 []) in (
       subst (λ n. Named (leaves (by_key kind) k p new) n ns now.slots now.rooms) (sym next) (named_more kind new k p i ns c.args.self.now.slots c.args.self.now.rooms was.slots was.rooms now.slots now.rooms here number (turn.2 0) slots rooms inv.0),
       subst (λ n. Unnamed (leaves (by_key kind) k p new) n c.args.self.now.slots c.args.self.now.rooms now.slots now.rooms) (sym next) (unnamed_more kind new k p i ns c.args.self.now.slots c.args.self.now.rooms was.slots was.rooms now.slots now.rooms here number (turn.2 0) slots rooms inv.1),
     )
@@ -79,7 +79,7 @@ returns-in_err-name c = λ kind new k p y.
     let first : c.into_iter-number-iterator.result.a.rest.now ≡ ns = cc in
     let second : c.into_iter-number-iterator.result.b.rest.now ≡ bs = cc in
     let turn = zip_turn ns bs c.loop-number.yielded c.into_iter-number-iterator.result c.loop-number.number-iterator c.next.new.self c.next.result first second c.loop-number.yielded_by (c.in-Some.number, c.in-Some.block) c.in-Some.is c.next.ensures.steps in
-    absurd (run_is kind new k p ns bs y (length c.loop-number.yielded) turn.1 c.in-Some.block.now (turn.3 []) c.in_err-name.ensures)
+    absurd (run_is y turn.1 (turn.3 []) c.in_err-name.ensures)
 
 pub returns : goal.returns
 returns c = λ kind new k p y.
@@ -89,7 +89,7 @@ returns c = λ kind new k p y.
     let second : c.into_iter-number-iterator.result.b.rest.now ≡ bs = cc in
     let end = zip_end ns bs c.loop-number.yielded c.into_iter-number-iterator.result c.loop-number.number-iterator c.next.new.self c.next.result first second c.loop-number.yielded_by c.in-None.is c.next.ensures.steps in
     let inv = c.loop-number.invariant kind new k p y in
-    let all : length (leaves (by_key kind) k p new) ≤ length c.loop-number.yielded = omega (arith, end, y.enough, laid-long kind new k p ns bs y) in
+    let all : length (leaves (by_key kind) k p new) ≤ length c.loop-number.yielded = omega (arith, end, y.enough, laid-long y) in
     record {
       on = λ i s l b. inv.0 i s (omega (arith, b, all)) b;
       off = λ s l ne. inv.1 s l (λ i li b e. ne (place_is (by_key kind) k p new i s (leaf 0 0) b e).0);
