@@ -3,8 +3,7 @@
 
 use kinds::KeyKind;
 use shape::{Row, forecast};
-use std::array;
-use std::io;
+use std::{array, io};
 
 // The pair, the length of the key, the key, and the data.
 const WEIGHT: u16 = 4 + 1 + 4 + 47;

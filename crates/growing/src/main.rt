@@ -57,7 +57,7 @@ fn add(rt: &HostRuntime, key: u32) -> anyhow::Result<()> {
             tell(rt, &image)?;
         }
         Err(fault) => {
-            refuse(rt, fault)?;
+            println!(rt; "{fault}")?;
             print!(rt; "  left as it was: ")?;
             return tell(rt, &image);
         }
@@ -66,7 +66,7 @@ fn add(rt: &HostRuntime, key: u32) -> anyhow::Result<()> {
     let key = 3u32.to_be_bytes();
     match remove::<ImageBuf, StraightNumbers>(&mut image, HEAD, &key, &SPARE) {
         Ok(removed) => tell_removal(rt, removed, &image),
-        Err(fault) => refuse(rt, fault),
+        Err(fault) => Ok(println!(rt; "{fault}")?),
     }
 }
 
@@ -98,14 +98,5 @@ fn tell(rt: &HostRuntime, image: &ImageBuf) -> anyhow::Result<()> {
     match measure(image, HEAD) {
         Some(figure) => Ok(println!(rt; "{figure}")?),
         None => Ok(println!(rt; "no index")?),
-    }
-}
-
-fn refuse(rt: &HostRuntime, fault: Fault) -> anyhow::Result<()> {
-    match fault {
-        Fault::BadRecord => Ok(println!(rt; "refused 7, a bad record")?),
-        Fault::Full => Ok(println!(rt; "refused 15, a prefix of 7 bits is too heavy")?),
-        Fault::NoRoom => Ok(println!(rt; "no room")?),
-        Fault::Broken => Ok(println!(rt; "no index")?),
     }
 }
