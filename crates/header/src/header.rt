@@ -11,7 +11,7 @@ pub struct Header {
     pub(crate) depth: u8,
     // the records in the index
     pub(crate) count: u32,
-    // the bucket of each slot
+    // the bucket of each slot; apart from the rooms, since a block has the buckets alone
     pub(crate) slots: [u16; 128],
     // how many of the 7 bits of a slot its bucket's prefix leaves
     pub(crate) rooms: [u8; 128],

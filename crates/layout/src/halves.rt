@@ -36,7 +36,7 @@ impl Part {
         Some((low, high))
     }
 
-    // Whether a record's hash begins with the prefix.
+    // Whether a record's hash begins with the prefix. A `match`: the search does not look into a closure under a kind.
     pub fn has<K: KeyKind>(self, bytes: &[u8]) -> bool
         ensures { is_record bytes.now ≡ true → Decides result (prefix_of self.room (K.KeyKind.kind.hash (key_of bytes.now)) ≡ self.prefix) }
     {

@@ -19,12 +19,9 @@ fn cut<K: KeyKind, S: Source>(source: &S, from: usize, to: usize, low: Part) -> 
     ensures low { (i : ℕ) → from ≤ i → i < result → is_record (slice_index_or (S.Source.records source.now) i []) ≡ true → prefix_of low.room (K.KeyKind.kind.hash (key_of (slice_index_or (S.Source.records source.now) i []))) ≡ low.prefix }
     ensures next { result < to → is_record (slice_index_or (S.Source.records source.now) result []) ≡ true → prefix_of low.room (K.KeyKind.kind.hash (key_of (slice_index_or (S.Source.records source.now) result []))) ≢ low.prefix }
 {
-    for n in from..to {
-        if !low.has::<K>(source.record(n)) {
-            return n;
-        }
-    }
-    to
+    (from..to)
+        .find(|n| !low.has::<K>(source.record(*n)))
+        .unwrap_or(to)
 }
 
 // Lays the records from one place up to another out in buckets: a heavy prefix is cut into its two

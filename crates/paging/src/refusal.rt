@@ -18,7 +18,7 @@ pub enum PageError {
 }
 
 impl PageError {
-    // The number of a refusal; broken blocks have none.
+    // The number of a refusal. A `match`, since broken blocks have none, and so no discriminant.
     pub fn number(self) -> Option<u8>
         ensures { result ≡ number self }
     {

@@ -11,7 +11,6 @@ use index::{Bucket, Fault, read_block, read_bucket};
 use kinds::KeyKind;
 use layout::Branch;
 use records::{bucket_key, place_for};
-use std::cmp::Ordering;
 
 // The place of an alike key in a bucket block, or where the key would stand.
 fn place_in<K: KeyKind>(block: &[u8], key: &[u8]) -> Result<usize, usize>
@@ -19,7 +18,7 @@ fn place_in<K: KeyKind>(block: &[u8], key: &[u8]) -> Result<usize, usize>
 {
     let place = place_for::<K>(block, key);
     match bucket_key(block, place) {
-        Some(found) if K::compare(found, key) == Ordering::Equal => Ok(place),
+        Some(found) if K::compare(found, key).is_eq() => Ok(place),
         _ => Err(place),
     }
 }

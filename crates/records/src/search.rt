@@ -7,7 +7,6 @@ ghost use Rattle.records.specs.Searches.{key_at, Sorted, Goes, Finds};
 
 use crate::items::{bucket_count, bucket_key};
 use kinds::{Hashed, KeyKind};
-use std::cmp::Ordering;
 
 // Whether record n has a key whose position is before the sought one's.
 fn is_before<K: KeyKind>(block: &[u8], n: usize, sought: &Hashed<'_, K>) -> bool
@@ -45,5 +44,5 @@ pub fn find<K: KeyKind>(block: &[u8], key: &[u8]) -> Option<usize>
     }
     let place = place_for::<K>(block, key);
     let found = bucket_key(block, place)?;
-    (K::compare(found, key) == Ordering::Equal).then_some(place)
+    K::compare(found, key).is_eq().then_some(place)
 }
