@@ -1,2 +1,3 @@
-pub mod Stored
+pub mod Messages
 pub mod Searching
+pub mod Stored

@@ -1,5 +1,6 @@
-ghost use Rattle.std.specs.Prelude.{◌≡◌};
+ghost use Rattle.std.specs.Prelude.{◌≡◌, Some};
 ghost use Rattle.index.specs.declared.fault.Fault.TheVariants.{Broken};
+ghost use Rattle.index.specs.Messages.{message};
 
 use device::Refused;
 use std::error::Error;
@@ -19,13 +20,15 @@ pub enum Fault {
 }
 
 impl fmt::Display for Fault {
+    ghost output = { λ fault. Some (message fault) };
+
     fn fmt<W: fmt::Write>(&self, f: &mut fmt::Formatter<W>) -> fmt::Result {
-        f.write_str(match self {
-            Fault::BadRecord => "refused 7, a bad record",
-            Fault::Full => "refused 15, a prefix of 7 bits is too heavy",
-            Fault::NoRoom => "no room",
-            Fault::Broken => "no index",
-        })
+        match self {
+            Fault::BadRecord => write!(f, "refused 7, a bad record"),
+            Fault::Full => write!(f, "refused 15, a prefix of 7 bits is too heavy"),
+            Fault::NoRoom => write!(f, "no room"),
+            Fault::Broken => write!(f, "no index"),
+        }
     }
 }
 

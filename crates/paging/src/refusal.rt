@@ -1,6 +1,7 @@
-ghost use Rattle.std.specs.Prelude.{◌≡◌};
+ghost use Rattle.std.specs.Prelude.{◌≡◌, Some};
 ghost use Rattle.paging.specs.Refusals.{number};
 ghost use Rattle.paging.specs.declared.refusal.PageError.TheVariants.{Broken};
+ghost use Rattle.paging.specs.Messages.{message};
 
 use index::Fault;
 use std::error::Error;
@@ -31,12 +32,14 @@ impl PageError {
 }
 
 impl fmt::Display for PageError {
+    ghost output = { λ error. Some (message error) };
+
     fn fmt<W: fmt::Write>(&self, f: &mut fmt::Formatter<W>) -> fmt::Result {
-        f.write_str(match self {
-            PageError::Buffer => "refused 6, a bad buffer",
-            PageError::Bookmark => "refused 7, a bad bookmark",
-            PageError::Broken => "no index",
-        })
+        match self {
+            PageError::Buffer => write!(f, "refused 6, a bad buffer"),
+            PageError::Bookmark => write!(f, "refused 7, a bad bookmark"),
+            PageError::Broken => write!(f, "no index"),
+        }
     }
 }
 
