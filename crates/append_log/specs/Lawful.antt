@@ -37,16 +37,32 @@ appends_trans xs ys zs p q = record {
   beyond = λ i h. let b = q.grows in p.beyond i (omega arith) ∙ q.beyond i h;
 }
 
+-- of any struct that holds the bytes
+pub owned_laws : {S : Type 0} (bytes : S → List ℕ) → Laws (λ s. log_blocks (bytes s)) (λ s. log_room (bytes s)) (λ s t. OnlyAppends (bytes s) (bytes t))
+owned_laws bytes = record {
+  sized = λ s. sized_blocks (bytes s);
+  countable = λ s. omega (arith, countable_blocks (bytes s));
+  bounded = λ s. bounded_room (length (bytes s)) (head_of (bytes s));
+  still = λ s. appends_refl (bytes s);
+  onward = λ s t u. appends_trans (bytes s) (bytes t) (bytes u);
+}
+
 -- of any struct that holds bytes, its own or lent
 module _ {S B : Type 0} {kept : B → B → Type 0} (held : S → B) (bytes : B → List ℕ) (laws : BytesLaws kept) where
   abbrev of : S → List ℕ
   of s = bytes (held s)
 
   pub log_laws : Laws (λ s. log_blocks (of s)) (λ s. log_room (of s)) (λ s t. kept (held s) (held t) × OnlyAppends (of s) (of t))
-  log_laws = record {
-    sized = λ s. sized_blocks (of s);
-    countable = λ s. omega (arith, countable_blocks (of s));
-    bounded = λ s. bounded_room (length (of s)) (head_of (of s));
-    still = λ s. (laws.still (held s), appends_refl (of s));
-    onward = λ s t u p q. (laws.onward _ _ _ p.0 q.0, appends_trans (of s) (of t) (of u) p.1 q.1);
-  }
+  log_laws =
+      let o = owned_laws of in
+      record {
+        sized = o.sized;
+        countable = o.countable;
+        bounded = o.bounded;
+        still = λ s. (laws.still (held s), o.still s);
+        onward = λ s t u p q. (laws.onward _ _ _ p.0 q.0, o.onward s t u p.1 q.1);
+      }
+
+-- of any struct that holds a reference to the bytes, by the reference's name
+pub lent_laws : {S N : Type 0} (bytes : S → List ℕ) (lender : S → N) → Laws (λ s. log_blocks (bytes s)) (λ s. log_room (bytes s)) (λ s t. (lender s ≡ lender t) × OnlyAppends (bytes s) (bytes t))
+lent_laws bytes lender = log_laws {kept = λ s t. lender s ≡ lender t} (λ s. s) bytes (record { still = λ _. refl; onward = λ _ _ _ p q. p ∙ q })

@@ -15,7 +15,7 @@ use Rattle.index.proofs.Reading.{slot_small}
 use Rattle.layout.proofs.Splits.{first_small}
 use Rattle.layout.specs.Laid.{leaf_block}
 use Rattle.plans.specs.declared.plan.Plan.{Plan}
-use Rattle.plans.specs.Planned.{Planned, Spare, Changed}
+use Rattle.plans.specs.Planned.{numbers_of, Planned, Spare, Changed}
 use Rattle.plans.proofs.Merges.{times-append}
 use Rattle.changes.specs.Making.{Pending, Headed, written}
 use Rattle.changes.proofs.Relays.{leaves_within}
@@ -206,7 +206,7 @@ module _ {kind : Kind} {before after : Blocks} {head : ℕ} {old new : List (Lis
   times_first x zero l = absurd (omega arith)
   times_first x (suc n) l = let e : suc n - 1 ≡ n = omega arith in ap (λ m. cond (eqb x plan.number) 1 0 + times x (take m spare)) (sym e)
 
-  pub passed : (b : ℕ) → times b (home kind after head new) + times b plan.given.items ≡ times b (home kind before head old) + times b (take (array_vec_len plan.laid - 1) spare)
+  pub passed : (b : ℕ) → times b (home kind after head new) + times b (numbers_of plan.given) ≡ times b (home kind before head old) + times b (take (array_vec_len plan.laid - 1) spare)
   passed b =
       let ar = around (by_key kind) plan.slot old new due.planned.differ K 7 due.planned.deep due.planned.heavy in
       let z = slot_small plan.slot due.planned.slot in
@@ -231,7 +231,7 @@ module _ {kind : Kind} {before after : Blocks} {head : ℕ} {old new : List (Lis
         due.planned.given b,
       )
 
-  pub changed : Changed kind before after head old new (take (array_vec_len plan.laid - 1) spare) plan.given.items
+  pub changed : Changed kind before after head old new (take (array_vec_len plan.laid - 1) spare) (numbers_of plan.given)
   changed = record {
     stored = stored_new;
     passed = passed;

@@ -7,7 +7,7 @@ use Rattle.index.specs.declared.fault.Fault.{Fault}
 use Rattle.index.specs.declared.fault.Fault.TheVariants.{NoRoom}
 use Rattle.index.specs.Stored.{Blocks, block, slots, rooms, Stored}
 use Rattle.plans.specs.declared.plan.Plan.{Plan}
-use Rattle.plans.specs.Planned.{Planned, Spare, Changed}
+use Rattle.plans.specs.Planned.{numbers_of, Planned, Spare, Changed}
 use Rattle.changes.specs.Relaying.{Relaid}
 
 -- blocks after each of some is written to its number
@@ -42,4 +42,4 @@ Affords allowed plan spare = (array_vec_len plan.laid ≤ 1 + length spare) × (
 pub record Makes (kind : Kind) (before after : Blocks) (allowed head : ℕ) (old new : List (List ℕ)) (plan : Plan) (spare : List ℕ) (done : Result (Unit {0}) Fault) : Type 0 where
   pub served : Decides (is_ok done) (Affords allowed plan spare)
   pub scarce : is_ok done ≡ false → done ≡ Err NoRoom
-  pub changed : is_ok done ≡ true → Changed kind before after head old new (take (array_vec_len plan.laid - 1) spare) plan.given.items
+  pub changed : is_ok done ≡ true → Changed kind before after head old new (take (array_vec_len plan.laid - 1) spare) (numbers_of plan.given)

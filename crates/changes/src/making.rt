@@ -6,16 +6,17 @@ ghost use Rattle.plans.specs.Planned.{Planned, Spare};
 ghost use Rattle.changes.specs.Making.{written, Ready, Makes};
 
 use crate::heading::head_after;
+use arrayvec::ArrayVec;
 use device::Device;
 use index::Fault;
-use plans::{Numbers, Plan};
+use plans::Plan;
 
 // The blocks of a plan's buckets: the one of the old bucket, then spare ones, unless these are too few.
-fn numbers_for(plan: &Plan, spare: &[u16]) -> Option<Numbers>
+fn numbers_for(plan: &Plan, spare: &[u16]) -> Option<ArrayVec<u16, 8>>
     ensures { MatchOption result (length spare.now < array_vec_len plan.now.laid - 1) (λ n. (array_vec_len plan.now.laid - 1 ≤ length spare.now) × (n.items ≡ plan.now.number ∷ take (array_vec_len plan.now.laid - 1) spare.now)) }
 {
     let taken = spare.get(..plan.taken())?;
-    let mut numbers = Numbers::new();
+    let mut numbers = ArrayVec::new();
     numbers.push(plan.number);
     numbers.try_extend_from_slice(taken).ok()?;
     Some(numbers)

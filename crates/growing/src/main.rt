@@ -90,7 +90,7 @@ fn put_key(image: &mut ImageBuf, key: u32) -> Result<Change, Fault> {
 
 fn tell_change(rt: &HostRuntime, change: Change) -> anyhow::Result<()> {
     let taken = change.taken;
-    let given = change.given.len();
+    let given = change.given.as_slice().len();
     Ok(print!(rt; "{taken} blocks taken, {given} given up; ")?)
 }
 

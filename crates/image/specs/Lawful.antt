@@ -28,16 +28,32 @@ same_trans xs ys zs p q = record {
   rest = p.rest ∙ subst (λ (n : ℕ). drop (512 * min (n / 512) 65535) ys ≡ drop (512 * min (n / 512) 65535) zs) (sym p.len) q.rest;
 }
 
+-- of any struct that holds the bytes
+pub owned_laws : {S : Type 0} (bytes : S → List ℕ) → Laws (λ s. image_blocks (bytes s)) (λ _. 4294967295) (λ s t. SameBeyond (bytes s) (bytes t))
+owned_laws bytes = record {
+  sized = λ s b h. let l : b < whole_blocks (bytes s) = omega (arith, length-image_blocks (bytes s)) in ap length (get_or-image_blocks (bytes s) b [] l) ∙ length-block_at (bytes s) b l;
+  countable = λ s. omega (arith, length-image_blocks (bytes s));
+  bounded = λ s. lit< tt;
+  still = λ s. same_refl (bytes s);
+  onward = λ s t u p q. same_trans (bytes s) (bytes t) (bytes u) p q;
+}
+
 -- of any struct that holds bytes, its own or lent
 module _ {S B : Type 0} {kept : B → B → Type 0} (held : S → B) (bytes : B → List ℕ) (laws : BytesLaws kept) where
   abbrev of : S → List ℕ
   of s = bytes (held s)
 
   pub image_laws : Laws (λ s. image_blocks (of s)) (λ _. 4294967295) (λ s t. kept (held s) (held t) × SameBeyond (of s) (of t))
-  image_laws = record {
-    sized = λ s b h. let l : b < whole_blocks (of s) = omega (arith, length-image_blocks (of s)) in ap length (get_or-image_blocks (of s) b [] l) ∙ length-block_at (of s) b l;
-    countable = λ s. omega (arith, length-image_blocks (of s));
-    bounded = λ s. lit< tt;
-    still = λ s. (laws.still (held s), same_refl (of s));
-    onward = λ s t u p q. (laws.onward _ _ _ p.0 q.0, same_trans (of s) (of t) (of u) p.1 q.1);
-  }
+  image_laws =
+      let o = owned_laws of in
+      record {
+        sized = o.sized;
+        countable = o.countable;
+        bounded = o.bounded;
+        still = λ s. (laws.still (held s), o.still s);
+        onward = λ s t u p q. (laws.onward _ _ _ p.0 q.0, o.onward s t u p.1 q.1);
+      }
+
+-- of any struct that holds a reference to the bytes, by the reference's name
+pub lent_laws : {S N : Type 0} (bytes : S → List ℕ) (lender : S → N) → Laws (λ s. image_blocks (bytes s)) (λ _. 4294967295) (λ s t. (lender s ≡ lender t) × SameBeyond (bytes s) (bytes t))
+lent_laws bytes lender = image_laws {kept = λ s t. lender s ≡ lender t} (λ s. s) bytes (record { still = λ _. refl; onward = λ _ _ _ p q. p ∙ q })

@@ -1,4 +1,4 @@
-ghost use Rattle.std.specs.Prelude.{◌≡◌, ◌+◌, ◌/◌, ◌^◌, ◌<◌, ◌≤◌, MatchOption};
+ghost use Rattle.std.specs.Prelude.{◌≡◌, ◌+◌, ◌/◌, ◌^◌, ◌<◌, ◌≤◌, ◌&&◌, if◌then◌else◌, Some, None, MatchOption, nat_le, nat_lt};
 ghost use Rattle.index.specs.Stored.{prefix_at};
 
 use crate::part::Part;
@@ -11,6 +11,13 @@ pub struct Branch {
     pub room: u8,
     ghost inside: { slot < 128 },
     ghost deep: { room ≤ 7 },
+}
+
+// The prefix of a slot that leaves `room` bits, where there is such a slot and prefix.
+pub fn slot_prefix(slot: u8, room: u8) -> Option<Prefix>
+    ensures { result ≡ (if nat_lt slot 128 && nat_le room 7 then Some (prefix_at room (slot / 2 ^ room)) else None) }
+{
+    Some(Branch::new(slot, room)?.prefix())
 }
 
 impl Branch {

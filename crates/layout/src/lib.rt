@@ -7,6 +7,6 @@ mod part;
 mod splitting;
 mod table;
 
-pub use branch::Branch;
+pub use branch::{Branch, slot_prefix};
 pub use splitting::lay_out;
 pub use table::Buckets;

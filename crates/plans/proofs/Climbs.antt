@@ -8,6 +8,7 @@ use Rattle.shape.proofs.Rooms.{room_above, heavy_up}
 use Rattle.index.specs.declared.blocks.Bucket.{Bucket}
 use Rattle.index.specs.Stored.{Blocks, slots, room_at, pointers, times}
 use Rattle.plans.specs.declared.merge.Merge.{Merge}
+use Rattle.plans.specs.Planned.{numbers_of}
 use Rattle.plans.specs.Merging.{Under, Joins, Reached, Merged}
 use Rattle.plans.proofs.Merges.{times-append, bucket-leaves}
 
@@ -34,7 +35,7 @@ module _ {kind : Kind} {blocks : Blocks} {head : ℕ} {header : List ℕ} {old n
     names = λ b. omega (arith, times-append b (get_or (slots header) s 0 ∷ given) (beside.number ∷ []), r.names b, j.named b);
   }
 
-  pub merged_end : (merge : Merge) → merge.room ≤ 7 → Reached kind blocks head header old new s merge.room merge.block (merge.given.items)
+  pub merged_end : (merge : Merge) → merge.room ≤ 7 → Reached kind blocks head header old new s merge.room merge.block (numbers_of merge.given)
       → (merge.room < 7 → is_light (by_key kind) (suc merge.room) (s / 2 ^ suc merge.room) new ≡ false) → Merged kind header old new s merge
   merged_end merge deep r next = record {
     deep = deep;

@@ -11,11 +11,11 @@ use Rattle.shape.proofs.Rooms.{prefix_up, room_le, room_above, heavy_up}
 use Rattle.shape.proofs.Leaves.{leaves_light, length-leaves}
 use Rattle.index.specs.Stored.{Blocks, block, slots, bucket_at, pointers, times}
 use Rattle.index.proofs.Reading.{load-sum, slot_small}
-use Rattle.arrayvec.specs.ArrayVec.{ArrayVec}
 use Rattle.layout.specs.Laid.{Buckets, leaf_block, LaidOut}
 use Rattle.plans.specs.declared.located.Located.{Located}
 use Rattle.plans.specs.declared.merge.Merge.{Merge}
-use Rattle.plans.specs.Planned.{Differ, HeavyAbove, Planned}
+use Rattle.plans.specs.declared.numbers.Numbers.{Numbers}
+use Rattle.plans.specs.Planned.{numbers_of, Differ, HeavyAbove, Planned}
 use Rattle.plans.specs.Merging.{Under, Merged}
 use Rattle.plans.specs.Editing.{Edited}
 use Rattle.plans.proofs.Counts.{few_records}
@@ -57,8 +57,8 @@ module _ {kind : Kind} {blocks : Blocks} {head : ℕ} {old new : List (List ℕ)
   }
 
   -- the buckets under a prefix of the slot, laid out in place of those that were there
-  planned : (K : ℕ) (given : ArrayVec ℕ) (laid : Buckets) → K ≤ 7 → HeavyAbove kind at.branch.slot K old new → LaidOut kind new K (at.branch.slot / 2 ^ K) laid
-      → ((b : ℕ) → times b (get_or (slots (block blocks head)) at.branch.slot 0 ∷ given.items) ≡ times b (pointers (block blocks head) (leaves (by_key kind) K (at.branch.slot / 2 ^ K) old)))
+  planned : (K : ℕ) (given : Numbers) (laid : Buckets) → K ≤ 7 → HeavyAbove kind at.branch.slot K old new → LaidOut kind new K (at.branch.slot / 2 ^ K) laid
+      → ((b : ℕ) → times b (get_or (slots (block blocks head)) at.branch.slot 0 ∷ numbers_of given) ≡ times b (pointers (block blocks head) (leaves (by_key kind) K (at.branch.slot / 2 ^ K) old)))
       → Planned kind (block blocks head) old new (record { header = at.header; slot = at.branch.slot; room = K; start = at.branch.room; number = at.number; given = given; laid = laid; count = count })
   planned K given laid deep heavy lay names =
       let held = held_new kind at.branch.slot K old new e.stored.held e.differ lay.held in
@@ -75,7 +75,7 @@ module _ {kind : Kind} {blocks : Blocks} {head : ℕ} {old new : List (List ℕ)
         heavy = heavy;
         number = e.number;
         laid = lay;
-        given = λ b. ap (λ n. times b (n ∷ given.items)) e.number ∙ names b;
+        given = λ b. ap (λ n. times b (n ∷ numbers_of given)) e.number ∙ names b;
       }
 
   pub planned_light : (merge : Merge) (laid : Buckets) → Merged kind at.header old new at.branch.slot merge → laid.items ≡ merge.block ∷ []
@@ -84,10 +84,10 @@ module _ {kind : Kind} {blocks : Blocks} {head : ℕ} {old new : List (List ℕ)
       let K = merge.room in
       let s = at.branch.slot in
       planned K merge.given laid g.deep g.heavy (laid_one kind new K (s / 2 ^ K) laid g.light (one ∙ ap (λ x. x ∷ []) g.bytes))
-      (λ b. subst (λ h. times b (get_or (slots h) s 0 ∷ merge.given.items) ≡ times b (pointers h (leaves (by_key kind) K (s / 2 ^ K) old))) e.read (g.given b))
+      (λ b. subst (λ h. times b (get_or (slots h) s 0 ∷ numbers_of merge.given) ≡ times b (pointers h (leaves (by_key kind) K (s / 2 ^ K) old))) e.read (g.given b))
 
   -- a bucket that is too heavy, split
-  pub planned_split : (given : ArrayVec ℕ) (laid : Buckets) → given.items ≡ [] → LaidOut kind new at.branch.room (at.branch.slot / 2 ^ at.branch.room) laid → 504 < load changed
+  pub planned_split : (given : Numbers) (laid : Buckets) → (numbers_of given) ≡ [] → LaidOut kind new at.branch.room (at.branch.slot / 2 ^ at.branch.room) laid → 504 < load changed
       → Planned kind (block blocks head) old new (record { header = at.header; slot = at.branch.slot; room = at.branch.room; start = at.branch.room; number = at.number; given = given; laid = laid; count = count })
   planned_split given laid none lay h =
       let K = at.branch.room in

@@ -10,7 +10,7 @@ use Rattle.index.specs.declared.fault.Fault.{Fault}
 use Rattle.index.specs.Stored.{Blocks, block, slots, Stored, room_at, bucket_at, pointers, times}
 use Rattle.layout.specs.declared.branch.Branch.{Branch}
 use Rattle.plans.specs.declared.merge.Merge.{Merge}
-use Rattle.plans.specs.Planned.{Differ, HeavyAbove}
+use Rattle.plans.specs.Planned.{numbers_of, Differ, HeavyAbove}
 
 -- the records of the low half before those of the high half
 abbrev pub in_order : Bool → List (List ℕ) → List (List ℕ) → List (List ℕ)
@@ -52,7 +52,7 @@ pub record Merged (kind : Kind) (header : List ℕ) (old new : List (List ℕ)) 
   pub light : is_light (by_key kind) merge.room (s / 2 ^ merge.room) new ≡ true
   pub heavy : HeavyAbove kind s merge.room old new
   pub bytes : merge.block ≡ bucket_at kind new merge.room (s / 2 ^ merge.room)
-  pub given : (b : ℕ) → times b (slice_index (slots header) s ∷ merge.given.items) ≡ times b (pointers header (leaves (by_key kind) merge.room (s / 2 ^ merge.room) old))
+  pub given : (b : ℕ) → times b (slice_index (slots header) s ∷ numbers_of merge.given) ≡ times b (pointers header (leaves (by_key kind) merge.room (s / 2 ^ merge.room) old))
 
 -- merged so far, up to the prefix that leaves k bits
 pub record Reached (kind : Kind) (blocks : Blocks) (head : ℕ) (header : List ℕ) (old new : List (List ℕ)) (s k : ℕ) (bytes given : List ℕ) : Type 0 where

@@ -1,5 +1,5 @@
 -- A planned change of an index, and what it is that it was made.
-use Rattle.std.specs.Prelude.{◌≡◌, ℕ, ◌+◌, ◌/◌, ◌^◌, ◌<◌, ◌≤◌, false, List, ◌∷◌, length, ◌≢◌, slice_index}
+use Rattle.std.specs.Prelude.{◌≡◌, ℕ, ◌+◌, ◌/◌, ◌^◌, ◌<◌, ◌≤◌, false, List, ◌∷◌, length, take, ◌≢◌, slice_index}
 use Rattle.kinds.specs.Kinds.{Kind}
 use Rattle.records.specs.Searches.{Sorted}
 use Rattle.shape.specs.Shapes.{under, is_light, Held}
@@ -7,7 +7,11 @@ use Rattle.shape.specs.Buckets.{leaves}
 use Rattle.shape.specs.Keyed.{by_key}
 use Rattle.index.specs.Stored.{Blocks, block, slots, room_at, Stored, pointers, home, times}
 use Rattle.layout.specs.Laid.{LaidOut}
+use Rattle.plans.specs.declared.numbers.Numbers.{Numbers}
 use Rattle.plans.specs.declared.plan.Plan.{Plan}
+
+abbrev pub numbers_of : Numbers → List ℕ
+numbers_of n = take n.len n.list
 
 -- two lists of records that differ at most under the prefixes of one slot
 abbrev pub Differ : Kind → ℕ → List (List ℕ) → List (List ℕ) → Type 0
@@ -33,7 +37,7 @@ pub record Planned (kind : Kind) (header : List ℕ) (old new : List (List ℕ))
   pub heavy : HeavyAbove kind plan.slot plan.room old new
   pub number : plan.number ≡ slice_index (slots header) plan.slot
   pub laid : LaidOut kind new plan.room (plan.slot / 2 ^ plan.room) plan.laid
-  pub given : (b : ℕ) → times b (plan.number ∷ plan.given.items) ≡ times b (pointers header (leaves (by_key kind) plan.room (plan.slot / 2 ^ plan.room) old))
+  pub given : (b : ℕ) → times b (plan.number ∷ numbers_of plan.given) ≡ times b (pointers header (leaves (by_key kind) plan.room (plan.slot / 2 ^ plan.room) old))
 
 -- blocks that an index may take: none is its own, none is named twice, and each is the device's
 pub record Spare (kind : Kind) (blocks : Blocks) (head : ℕ) (records : List (List ℕ)) (spare : List ℕ) : Type 0 where

@@ -1,5 +1,6 @@
 ghost use Rattle.std.specs.Prelude.{◌≡◌, ◌-◌, ◌≤◌};
 ghost use Rattle.arrayvec.specs.ArrayVec.{array_vec_len};
+ghost use Rattle.plans.specs.Planned.{numbers_of};
 
 use crate::plan::Plan;
 
@@ -14,7 +15,7 @@ impl Plan {
 
     // Which blocks it gives up.
     pub fn given(&self) -> &[u16]
-        ensures { result.now ≡ self.now.given.items }
+        ensures { result.now ≡ numbers_of self.now.given }
     {
         self.given.as_slice()
     }

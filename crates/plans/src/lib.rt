@@ -2,6 +2,7 @@
 #![tactic(auto)]
 
 mod extent;
+mod list;
 mod located;
 mod locating;
 mod merge;

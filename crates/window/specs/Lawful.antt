@@ -51,8 +51,8 @@ outside_trans w bs cs ds p q = record {
 
 -- of any struct that holds the device below, its own or lent
 module _ {S D : Type 0} {contents : D → List (List ℕ)} {allowed : D → ℕ} {kept : D → D → Type 0} (below : S → D) (span : S → Span) (laws : Laws contents allowed kept) where
-  pub window_laws : Laws (λ w. view (contents (below w)) (span w)) (λ w. allowed (below w)) (λ w v. (span w ≡ span v) × (SameOutside (span w) (contents (below w)) (contents (below v)) × kept (below w) (below v)))
-  window_laws = record {
+  pub owned_laws : Laws (λ w. view (contents (below w)) (span w)) (λ w. allowed (below w)) (λ w v. (span w ≡ span v) × (SameOutside (span w) (contents (below w)) (contents (below v)) × kept (below w) (below v)))
+  owned_laws = record {
     sized = λ w b h. let i = in_view (contents (below w)) (span w) b h in ap length (get_or-view (contents (below w)) (span w) b [] h) ∙ laws.sized (below w) ((span w).start + b) (omega arith);
     countable = λ w. omega (arith, length-view_le (contents (below w)) (span w), laws.countable (below w));
     bounded = λ w. laws.bounded (below w);
@@ -60,4 +60,14 @@ module _ {S D : Type 0} {contents : D → List (List ℕ)} {allowed : D → ℕ}
     onward = λ u v w p q.
         let o : SameOutside (span u) (contents (below v)) (contents (below w)) = subst (λ (s : Span). SameOutside s (contents (below v)) (contents (below w))) (sym p.0) q.1.0 in
         (p.0 ∙ q.0, (outside_trans _ _ _ _ p.1.0 o, laws.onward _ _ _ p.1.1 q.1.1));
+  }
+
+  -- of any struct that holds a reference to it, by the reference's name
+  pub lent_laws : {N : Type 0} (lender : S → N) → Laws (λ w. view (contents (below w)) (span w)) (λ w. allowed (below w)) (λ w v. (lender w ≡ lender v) × ((span w ≡ span v) × (SameOutside (span w) (contents (below w)) (contents (below v)) × kept (below w) (below v))))
+  lent_laws lender = record {
+    sized = owned_laws.sized;
+    countable = owned_laws.countable;
+    bounded = owned_laws.bounded;
+    still = λ w. (refl, owned_laws.still w);
+    onward = λ u v w p q. (p.0 ∙ q.0, owned_laws.onward u v w p.1 q.1);
   }

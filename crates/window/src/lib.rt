@@ -5,7 +5,7 @@ mod span;
 
 ghost use Rattle.std.specs.Prelude.{◌≡◌, ◌+◌, ◌<◌, length, is_ok, IfOk, nat_lt};
 ghost use Rattle.window.specs.View.{view, SameOutside};
-ghost use Rattle.window.specs.Lawful.{window_laws};
+ghost use Rattle.window.specs.Lawful.{owned_laws};
 
 use device::{Device, Refused};
 pub use span::Span;
@@ -52,7 +52,7 @@ impl<D: Device> Device for Window<D> {
 
     ghost kept = { λ w v. (w.span ≡ v.span) × (SameOutside w.span (D.Device.contents w.below) (D.Device.contents v.below) × D.Device.kept w.below v.below) };
 
-    ghost laws = { window_laws (λ w. w.below) (λ w. w.span) D.Device.laws };
+    ghost laws = { owned_laws (λ w. w.below) (λ w. w.span) D.Device.laws };
 
     // None where the window reaches past the device below.
     fn count(&self) -> u32 {

@@ -2,7 +2,7 @@ use Rattle.std.proofs.Common.{◌≡◌, take, false, sym, refl, subst, arith}
 use Rattle.std.proofs.lemmas.Result.{err_from_is_err_and}
 use Rattle.std.proofs.lemmas.Bool.{both_ways}
 use Rattle.index.specs.declared.fault.Fault.TheVariants.{NoRoom}
-use Rattle.plans.specs.Planned.{Changed}
+use Rattle.plans.specs.Planned.{numbers_of, Changed}
 use Rattle.changes.proofs.changing.apply.Goals as goal
 
 pub returns-in_err-make-clause-ends : goal.returns-in_err-make-clause-ends
@@ -16,4 +16,4 @@ returns-in_err-make-clause-ends g c = λ kind old new st pl sp.
 
 pub returns-clause-ends : goal.returns-clause-ends
 returns-clause-ends g c = λ kind old new st pl sp.
-    subst (λ n. Changed kind (g.D.Device.contents c.args.device.now) (g.D.Device.contents c.make.new.device) c.args.head old new (take n c.args.spare.now) c.args.plan.given.items) (sym c.taken-taken.ensures.value) ((c.in_ok-make.ensures.makes kind old new st pl sp).changed refl)
+    subst (λ n. Changed kind (g.D.Device.contents c.args.device.now) (g.D.Device.contents c.make.new.device) c.args.head old new (take n c.args.spare.now) (numbers_of c.args.plan.given)) (sym c.taken-taken.ensures.value) ((c.in_ok-make.ensures.makes kind old new st pl sp).changed refl)

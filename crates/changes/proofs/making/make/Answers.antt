@@ -5,7 +5,7 @@ use Rattle.std.proofs.lemmas.Slice.Eq.{slice_eq-Decides}
 use Rattle.std.proofs.lemmas.Bool.{both_ways, cond-true, and_from, lt-ltb, eq-eqb, not-false}
 use Rattle.std.proofs.lemmas.Bool.Decides.{Decides-eqb}
 use Rattle.arrayvec.specs.ArrayVec.{array_vec_len}
-use Rattle.plans.specs.Planned.{Changed}
+use Rattle.plans.specs.Planned.{numbers_of, Changed}
 use Rattle.changes.specs.Making.{written}
 use Rattle.changes.proofs.Writes.{length-written}
 use Rattle.changes.proofs.Naming.{some_laid}
@@ -83,7 +83,7 @@ returns-then-ne-clause-makes g c = λ kind old new st pl sp.
       served = (λ _. (omega (arith, told.0), omega (arith, ready.writes, long, short, told.0)), λ _. refl);
       scarce = λ f. absurd (both_ways true f refl);
       changed = λ _.
-          subst (λ ts. Changed kind before after head old new ts plan.given.items) (take-take n n spare (omega arith))
+          subst (λ ts. Changed kind before after head old new ts (numbers_of plan.given)) (take-take n n spare (omega arith))
           (changed due hd (wrote-both due header hd after sets));
     }
 
@@ -111,6 +111,6 @@ returns-else-ne-clause-makes g c = λ kind old new st pl sp.
       served = (λ _. (omega (arith, told.0), omega (arith, ready.writes, long, short, told.0)), λ _. refl);
       scarce = λ f. absurd (both_ways true f refl);
       changed = λ _.
-          subst (λ ts. Changed kind before after head old new ts plan.given.items) (take-take n n spare (omega arith))
+          subst (λ ts. Changed kind before after head old new ts (numbers_of plan.given)) (take-take n n spare (omega arith))
           (changed due hd (wrote-buckets due header hd after wrote (same ∙ pl.read)));
     }

@@ -72,4 +72,4 @@ returns g c = λ head rs st ir lk w.
     let some = put-load at.place (records_in at.block) base c.in_ok-base.place r (c.in_ok-base.ensures light) light ir in
     let laid = rw c.in_ok-laid.ensures.ok_part at c.lay_out.ensures in
     let heavy = leb-false _ _ (none_told (leb (load ys) 504) (bucket_bytes c.prefix.result ys) c.in_default.ensures.bytes) in
-    planned_split edit met.bounded c.new.result c.in_ok-laid.laid c.new.ensures (laid (put kind r rs) edit.sorted at.branch.inside at.branch.deep some edit.there) heavy
+    planned_split edit met.bounded c.new.result c.in_ok-laid.laid c.new.ensures.none (laid (put kind r rs) edit.sorted at.branch.inside at.branch.deep some edit.there) heavy
