@@ -2,3 +2,4 @@ pub mod Held
 pub mod Built
 mod Edited
 pub mod Checked
+mod Tried

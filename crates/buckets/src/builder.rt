@@ -11,18 +11,13 @@ use records::{BUCKET_HEAD, PAIR};
 // What records and their pairs may take in a block of 512 bytes.
 const MAX_LOAD: usize = 504;
 
-// What the records of a source leave of that, if they fit. A source hands its records out by number, so that this is
-// a loop over numbers.
-#[tactic(auto, using(crate::proofs::Held::load_is, crate::proofs::Held::size_take, crate::proofs::Built::size_more, std::proofs::lemmas::List::take_all))]
+// What the records of a source leave of that, if they fit.
+#[tactic(auto, using(crate::proofs::Held::load_is))]
 fn room_left<S: Source>(source: &S) -> Option<usize>
     ensures { MatchOption result (504 < load (S.Source.records source.now)) (λ left. left + load (S.Source.records source.now) ≡ 504) }
 {
-    let count = source.count();
-    let mut left = MAX_LOAD.checked_sub(PAIR.checked_mul(count)?)?;
-    for n in 0..count {
-        left = left.checked_sub(source.record(n).len())?;
-    }
-    Some(left)
+    let pairs = MAX_LOAD.checked_sub(PAIR.checked_mul(source.count())?)?;
+    (0..source.count()).try_fold(pairs, |left, n| left.checked_sub(source.record(n).len()))
 }
 
 // The pair that leads to a record.

@@ -1,6 +1,6 @@
-ghost use Rattle.std.specs.Prelude.{◌≡◌, ℕ, ◌-◌, ◌<◌, ◌≤◌, true, [], length, Decides, slice_index_or};
+ghost use Rattle.std.specs.Prelude.{◌≡◌, ℕ, ◌<◌, ◌≤◌, true, length, Decides};
 ghost use Rattle.records.specs.Items.{records_in};
-ghost use Rattle.records.specs.Records.{is_record, load};
+ghost use Rattle.records.specs.Records.{load};
 ghost use Rattle.buckets.specs.Blocks.{bucket_bytes};
 ghost use Rattle.buckets.specs.Buckets.{FitsAt, IsBucket};
 
@@ -19,8 +19,9 @@ fn is_rebuilt(prefix: Prefix, block: &[u8]) -> bool
 
 // Whether record n is a record of the kind under the prefix, and after the one before it.
 fn fits_at<K: KeyKind>(prefix: Prefix, block: &[u8], n: usize) -> bool
-    requires { (n < length (records_in block.now)) × (0 < n → is_record (slice_index_or (records_in block.now) (n - 1) []) ≡ true) }
-    ensures { Decides result (FitsAt K.KeyKind.kind prefix (records_in block.now) n) }
+    requires { n < length (records_in block.now) }
+    ensures fits { result ≡ true → FitsAt K.KeyKind.kind prefix (records_in block.now) n }
+    ensures all { ((m : ℕ) → m < length (records_in block.now) → FitsAt K.KeyKind.kind prefix (records_in block.now) m) → result ≡ true }
 {
     let Some(key) = bucket_key(block, n) else {
         return false;
@@ -32,16 +33,11 @@ fn fits_at<K: KeyKind>(prefix: Prefix, block: &[u8], n: usize) -> bool
     n == 0 || matches!(bucket_key(block, n - 1), Some(before) if hashed.order_of(before).is_lt())
 }
 
-// Whether every record fits at its place. A loop, since what is known of one record is needed at the next.
+// Whether every record fits at its place.
 fn all_fit<K: KeyKind>(prefix: Prefix, block: &[u8]) -> bool
     ensures { Decides result ((n : ℕ) → n < length (records_in block.now) → FitsAt K.KeyKind.kind prefix (records_in block.now) n) }
 {
-    for n in 0..bucket_count(block) {
-        if !fits_at::<K>(prefix, block, n) {
-            return false;
-        }
-    }
-    true
+    (0..bucket_count(block)).all(|n| fits_at::<K>(prefix, block, n))
 }
 
 // Whether bytes are the bucket block of some lawful records under a prefix.

@@ -36,14 +36,13 @@ impl Part {
         Some((low, high))
     }
 
-    // Whether a record's hash begins with the prefix. A `match`: the search does not look into a closure under a kind.
+    // Whether a record's hash begins with the prefix.
     pub fn has<K: KeyKind>(self, bytes: &[u8]) -> bool
         ensures { is_record bytes.now ≡ true → Decides result (prefix_of self.room (K.KeyKind.kind.hash (key_of bytes.now)) ≡ self.prefix) }
     {
-        match read_record(bytes) {
-            Some(parts) => u64::from(K::hash(parts.key)) >> (25 + self.room)
-                == u64::from(self.prefix),
-            None => false,
-        }
+        matches!(
+            read_record(bytes),
+            Some(parts) if u64::from(K::hash(parts.key)) >> (25 + self.room) == u64::from(self.prefix)
+        )
     }
 }

@@ -1,7 +1,6 @@
-use borrow.Author.Count.{below_more}
-use Rattle.records.specs.Items.{records_in}
-use Rattle.buckets.specs.Buckets.{FitsAt}
+use Rattle.std.proofs.Common.{◌≡◌, refl, rules}
+use Rattle.std.proofs.iter.runs.Sources.{ranges}
 use Rattle.buckets.proofs.check.all_fit.Goals as goal
 
-pub loop-n-preserved : goal.loop-n-preserved
-loop-n-preserved g c = below_more (FitsAt g.K.KeyKind.kind c.args.prefix (records_in c.args.block.now)) c.loop-n.n c.loop-n.invariant (c.fits_at.ensures.0 c.if-not-fits_at.false)
+pub returns : goal.returns
+returns g c = (λ e n l. let p = c.all.ensures.runs.0 in let o : p.at n ≡ p.at n = refl in search (rules, ranges), λ fit. search (rules, ranges))

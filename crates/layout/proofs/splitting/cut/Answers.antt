@@ -1,7 +1,6 @@
 use Rattle.std.specs.Prelude.{true}
-use Rattle.std.proofs.Common.{◌≡◌, ℕ, ◌+◌, ◌-◌, ◌<◌, ◌≤◌, List, [], get_or, refl, rules, arith}
+use Rattle.std.proofs.Common.{◌≡◌, ℕ, ◌+◌, ◌-◌, ◌<◌, [], get_or, refl, rules, arith}
 use Rattle.std.proofs.iter.runs.Sources.{ranges}
-use Rattle.std.proofs.lemmas.Grind.{common_steps}
 use Rattle.records.specs.Records.{is_record, key_of}
 use Rattle.shape.specs.Shapes.{prefix_of}
 use Rattle.layout.proofs.splitting.cut.Goals as goal

@@ -10,3 +10,10 @@ returns-in-Some g c = λ t.
     let k = 25 + c.args.self.room in
     let e : c.from.result / 2 ^ k ≡ g.K.KeyKind.kind.hash (key_of c.args.bytes.now) / 2 ^ k = ap (λ h. h / 2 ^ k) (c.from.ensures ∙ c.hash.ensures ∙ ap g.K.KeyKind.kind.hash c.in-Some.ensures.1) in
     (λ z. grind (arith, nat_tests), λ z. grind (arith, nat_tests))
+
+pub returns-in_default : goal.returns-in_default
+unfolding prefix_of
+returns-in_default g c = λ t.
+    let k = 25 + c.args.self.room in
+    let e : c.from.result / 2 ^ k ≡ g.K.KeyKind.kind.hash (key_of c.args.bytes.now) / 2 ^ k = ap (λ h. h / 2 ^ k) (c.from.ensures ∙ c.hash.ensures ∙ ap g.K.KeyKind.kind.hash c.in-Some.ensures.1) in
+    (λ z. absurd (cc), λ z. grind (arith, nat_tests))
