@@ -14,7 +14,7 @@ use crate::refusal::NoIndex;
 use device::Device;
 use kinds::KeyKind;
 use pages::PageBuilder;
-use records::{bucket_count, bucket_key, bucket_record, place_for, read_record};
+use records::{bucket_count, bucket_record, read_record, search};
 
 // The slots of a header: one for each 7 bits that a hash may begin with.
 const SLOTS: u32 = 128;
@@ -51,10 +51,9 @@ fn passed<K: KeyKind>(block: &[u8], bookmark: &[u8]) -> usize
     if bookmark.is_empty() {
         return 0;
     }
-    let place = place_for::<K>(block, bookmark);
-    match bucket_key(block, place) {
-        Some(key) if K::compare(key, bookmark).is_eq() => place + 1,
-        _ => place,
+    match search::<K>(block, bookmark) {
+        Ok(place) => place + 1,
+        Err(place) => place,
     }
 }
 

@@ -5,7 +5,7 @@ use Rattle.std.proofs.lemmas.Bool.{and_parts, leb-true}
 use Rattle.kinds.specs.Kinds.{Kind, TotalOrder, AlikeHash, Bounded}
 use Rattle.records.specs.Records.{is_record, key_of, weight, load}
 use Rattle.records.specs.Items.{records_in}
-use Rattle.records.specs.Searches.{Sorted}
+use Rattle.records.specs.Searches.{Sorted, PlacedAt}
 use Rattle.records.specs.Ordered.{put, without, alike}
 use Rattle.records.proofs.Halved.{none_alike}
 use Rattle.records.proofs.Alike.{alike-found, alike-absent}
@@ -14,7 +14,7 @@ use Rattle.shape.specs.Keyed.{by_key}
 use Rattle.index.specs.Stored.{Blocks, room_at, Stored}
 use Rattle.index.proofs.Reading.{alike-under, sorted_under, slot_below, bucket-light}
 use Rattle.plans.specs.declared.located.Located.{Located}
-use Rattle.plans.specs.Locating.{PlacedAt, LocatedIn}
+use Rattle.plans.specs.Locating.{LocatedIn}
 use Rattle.plans.specs.Editing.{Cleared, Edited}
 use Rattle.plans.proofs.Counts.{few_records}
 use Rattle.plans.proofs.Puts.{sorted_put, sorted_without, under-put-on, under-put-off, under-without, without-off, without_found, put_new, put-over, length-put, length_without}

@@ -1,18 +1,12 @@
 -- Where a key stands in an index that blocks store.
-use Rattle.std.specs.Prelude.{◌≡◌, ℕ, ◌/◌, ◌^◌, ◌<◌, ◌≤◌, ◌≢◌, List, length, Ok, Err, Result, slice_index}
-use Rattle.std.specs.declared.cmp.Ordering.TheVariants.{Equal}
+use Rattle.std.specs.Prelude.{◌≡◌, ℕ, ◌/◌, ◌^◌, List, length, slice_index}
 use Rattle.kinds.specs.Kinds.{Kind}
 use Rattle.records.specs.Items.{records_in}
-use Rattle.records.specs.Searches.{key_at, Goes}
+use Rattle.records.specs.Searches.{PlacedAt}
 use Rattle.shape.specs.Shapes.{under}
 use Rattle.shape.specs.Keyed.{by_key}
 use Rattle.index.specs.Stored.{Blocks, block, slots, room_at}
 use Rattle.plans.specs.declared.located.Located.{Located}
-
--- a key's place among sorted records, or where it goes
-abbrev pub PlacedAt : Kind → List (List ℕ) → List ℕ → Result ℕ ℕ → Type 0
-PlacedAt kind records key (Ok n) = Goes kind records key n × (n < length records) × (kind.order (key_at records n) key ≡ Equal)
-PlacedAt kind records key (Err n) = Goes kind records key n × (n ≤ length records) × (n < length records → kind.order (key_at records n) key ≢ Equal)
 
 pub record LocatedIn (kind : Kind) (blocks : Blocks) (head : ℕ) (records : List (List ℕ)) (key : List ℕ) (at : Located) : Type 0 where
   pub header : at.header ≡ block blocks head

@@ -1,8 +1,6 @@
 ghost use Rattle.std.specs.Prelude.{◌≡◌, ℕ, ◌+◌, ◌/◌, ◌^◌, ◌≤◌, true, List, MatchOption, MatchResult, slice_index};
-ghost use Rattle.records.specs.Items.{records_in};
-ghost use Rattle.records.specs.Searches.{Sorted};
 ghost use Rattle.index.specs.Stored.{Stored};
-ghost use Rattle.plans.specs.Locating.{PlacedAt, LocatedIn};
+ghost use Rattle.plans.specs.Locating.{LocatedIn};
 
 use crate::located::Located;
 use device::Device;
@@ -10,18 +8,7 @@ use header::count_in;
 use index::{Bucket, Fault, read_block, read_bucket};
 use kinds::KeyKind;
 use layout::Branch;
-use records::{bucket_key, place_for};
-
-// The place of an alike key in a bucket block, or where the key would stand.
-fn place_in<K: KeyKind>(block: &[u8], key: &[u8]) -> Result<usize, usize>
-    ensures { Sorted K.KeyKind.kind (records_in block.now) → K.KeyKind.kind.lawful key.now ≡ true → PlacedAt K.KeyKind.kind (records_in block.now) key.now result }
-{
-    let place = place_for::<K>(block, key);
-    match bucket_key(block, place) {
-        Some(found) if K::compare(found, key).is_eq() => Ok(place),
-        _ => Err(place),
-    }
-}
+use records::search;
 
 // The prefix of a hash that a bucket block has.
 fn branch_in(block: &[u8; 512], hash: u32) -> Option<Branch>
@@ -45,7 +32,7 @@ pub(crate) fn locate<D: Device, K: KeyKind>(
     let hash = K::hash(key);
     let Bucket { number, block } = read_bucket(device, &header, hash)?;
     let branch = branch_in(&block, hash).ok_or(Fault::Broken)?;
-    let place = place_in::<K>(&block, key);
+    let place = search::<K>(&block, key);
     Ok(Located {
         header,
         count,

@@ -1,5 +1,5 @@
 -- Records in rising position, and what a search among them answers.
-use Rattle.std.specs.Prelude.{◌≡◌, ℕ, ◌<◌, ◌≤◌, true, ◌≢◌, List, [], length, Some, None, Option, slice_index_or}
+use Rattle.std.specs.Prelude.{◌≡◌, ℕ, ◌<◌, ◌≤◌, true, ◌≢◌, List, [], length, Some, None, Option, Ok, Err, Result, slice_index_or}
 use Rattle.std.specs.declared.cmp.Ordering.TheVariants.{Less, Equal}
 use Rattle.kinds.specs.Kinds.{Kind, position}
 use Rattle.records.specs.Records.{is_record, key_of}
@@ -18,6 +18,11 @@ pub record Sorted (kind : Kind) (records : List (List ℕ)) : Type 0 where
 pub record Goes (kind : Kind) (records : List (List ℕ)) (key : List ℕ) (n : ℕ) : Type 0 where
   pub before : (m : ℕ) → m < n → position kind (key_at records m) key ≡ Less
   pub after : (m : ℕ) → n ≤ m → m < length records → position kind (key_at records m) key ≢ Less
+
+-- a key's place among sorted records, or where it goes
+abbrev pub PlacedAt : Kind → List (List ℕ) → List ℕ → Result ℕ ℕ → Type 0
+PlacedAt kind records key (Ok n) = Goes kind records key n × (n < length records) × (kind.order (key_at records n) key ≡ Equal)
+PlacedAt kind records key (Err n) = Goes kind records key n × (n ≤ length records) × (n < length records → kind.order (key_at records n) key ≢ Equal)
 
 -- the place of a record whose key is alike to the lawful key, or nothing where there is none
 abbrev pub Finds : Kind → List (List ℕ) → List ℕ → Option ℕ → Type 0

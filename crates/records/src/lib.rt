@@ -3,10 +3,10 @@
 
 mod items;
 mod record;
-mod search;
+mod searching;
 
 pub use items::{
     BUCKET_HEAD, PAGE_HEAD, PAIR, bucket_count, bucket_key, bucket_record, page_record,
 };
 pub use record::{MAX_RECORD, Record, read_record};
-pub use search::{find, place_for};
+pub use searching::{find, place_for, search};

@@ -53,5 +53,5 @@ returns g c = λ rs st.
       room = bits ∙ ap (room_at kind rs) at;
       number = number_is st l same b ∙ ap (λ n. get_or (slots (block blocks head)) n 0) at;
       holds = holds-is st l same b branch.room bits ∙ ap (λ n. under (by_key kind) branch.room (n / 2 ^ branch.room) rs) at;
-      placed = c.place_in-place.ensures (holds-sorted st l same b) c.requires;
+      placed = c.search-place.ensures.placed (holds-sorted st l same b) c.requires;
     }

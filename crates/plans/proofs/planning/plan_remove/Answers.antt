@@ -4,7 +4,7 @@ use Rattle.records.specs.Items.{records_in}
 use Rattle.records.specs.Ordered.{without}
 use Rattle.buckets.specs.Blocks.{bucket_bytes}
 use Rattle.index.specs.Stored.{prefix_at}
-use Rattle.plans.specs.Locating.{PlacedAt}
+use Rattle.records.specs.Searches.{PlacedAt}
 use Rattle.plans.proofs.Edits.{Found, edited_without, alike_there, alike_not_there, at_light}
 use Rattle.plans.proofs.planning.plan_remove.Goals as goal
 

@@ -1,6 +1,6 @@
 use Rattle.std.proofs.Common.{arith}
 use Rattle.records.proofs.Halved.{raise_low, cut_high}
-use Rattle.records.proofs.search.place_for.Goals as goal
+use Rattle.records.proofs.searching.place_for.Goals as goal
 
 pub loop-low-preserved-then-is_before : goal.loop-low-preserved-then-is_before
 loop-low-preserved-then-is_before g c = (

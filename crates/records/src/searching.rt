@@ -1,9 +1,10 @@
-ghost use Rattle.std.specs.Prelude.{◌≡◌, ◌≤◌, true, [], length, slice_index_or};
+ghost use Rattle.std.specs.Prelude.{◌≡◌, ◌<◌, ◌≤◌, true, [], length, IfOk, slice_index_or};
 ghost use Rattle.std.specs.Ordering.{is_lt};
+ghost use Rattle.std.specs.declared.cmp.Ordering.TheVariants.{Equal};
 ghost use Rattle.kinds.specs.Kinds.{position};
 ghost use Rattle.records.specs.Records.{is_record};
 ghost use Rattle.records.specs.Items.{records_in};
-ghost use Rattle.records.specs.Searches.{key_at, Sorted, Goes, Finds};
+ghost use Rattle.records.specs.Searches.{key_at, Sorted, Goes, PlacedAt, Finds};
 
 use crate::items::{bucket_count, bucket_key};
 use kinds::{Hashed, KeyKind};
@@ -35,6 +36,18 @@ pub fn place_for<K: KeyKind>(block: &[u8], key: &[u8]) -> usize
     low
 }
 
+// The place of the record in a bucket block whose key is alike, or where the key goes.
+pub fn search<K: KeyKind>(block: &[u8], key: &[u8]) -> Result<usize, usize>
+    ensures found { IfOk result (λ n. (n < length (records_in block.now)) × (is_record (slice_index_or (records_in block.now) n []) ≡ true) × (K.KeyKind.kind.order (key_at (records_in block.now) n) key.now ≡ Equal)) }
+    ensures placed { Sorted K.KeyKind.kind (records_in block.now) → K.KeyKind.kind.lawful key.now ≡ true → PlacedAt K.KeyKind.kind (records_in block.now) key.now result }
+{
+    let place = place_for::<K>(block, key);
+    match bucket_key(block, place) {
+        Some(found) if K::compare(found, key).is_eq() => Ok(place),
+        _ => Err(place),
+    }
+}
+
 // The place of the record in a bucket block whose key is alike, or nothing. A key that is not lawful is found nowhere.
 pub fn find<K: KeyKind>(block: &[u8], key: &[u8]) -> Option<usize>
     ensures { Finds K.KeyKind.kind (records_in block.now) key.now result }
@@ -42,7 +55,5 @@ pub fn find<K: KeyKind>(block: &[u8], key: &[u8]) -> Option<usize>
     if !K::is_lawful(key) {
         return None;
     }
-    let place = place_for::<K>(block, key);
-    let found = bucket_key(block, place)?;
-    K::compare(found, key).is_eq().then_some(place)
+    search::<K>(block, key).ok()
 }

@@ -2,7 +2,7 @@ use Rattle.std.proofs.Common.{◌≡◌, ◌-◌, ◌≤◌, true, length}
 use Rattle.records.specs.Items.{records_in}
 use Rattle.records.specs.Searches.{Sorted}
 use Rattle.records.proofs.Halved.{Between}
-use Rattle.records.proofs.search.place_for.Given as goal
+use Rattle.records.proofs.searching.place_for.Given as goal
 
 abbrev pub invariant-loop-low : goal.invariant-loop-low
 invariant-loop-low g l =
