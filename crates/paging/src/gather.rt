@@ -29,8 +29,9 @@ fn record_at(block: &[u8], n: usize) -> Option<&[u8]>
     Some(item)
 }
 
-// Takes the records of a bucket block from a place on, until one does not fit. The answer is whether all did: the
-// end mark that `finish` writes. A full page is a whole answer of `page`, and so no error here. A block hands its records out by number, so that this is a loop over numbers.
+// Takes the records of a bucket block from a place on, until one does not fit. The answer is whether all did: a full
+// page is no error, since `page` would turn it back into an end mark that is false.
+// A block hands its records out by number, so that this is a loop over numbers.
 fn take_from(block: &[u8], from: usize, page: &mut PageBuilder) -> Result<bool, NoIndex>
     ensures size { page.new.size ≡ page.old.size }
     ensures took { MatchResult result (λ whole. Took page.old.size (gathered page.old) (drop from (records_in block.now)) (gathered page.new) whole) (λ _. Unreadable (records_in block.now)) }
@@ -68,7 +69,8 @@ fn first_slot<K: KeyKind>(bookmark: &[u8]) -> u32
     K::hash(bookmark) >> 25
 }
 
-// Takes the records after a bookmark, bucket by bucket, until one does not fit. The answer is whether all did.
+// Takes the records after a bookmark, bucket by bucket, until one does not fit. The answer is whether all did: the end
+// mark of the page.
 pub(crate) fn gather<D: Device, K: KeyKind>(
     device: &D,
     header: &[u8],
