@@ -42,10 +42,10 @@ pub(crate) fn bucket_of<D: Device>(
 pub(crate) fn room_in(block: &[u8; 512]) -> Result<u8, NoIndex>
     ensures { MatchResult result (λ room. (slice_index block.now 0 ≡ 3) × (slice_index block.now 1 + room ≡ 7)) (λ _. slice_index block.now 0 ≡ 3 → 7 < slice_index block.now 1) }
 {
-    if block[0] != BUCKET_TAG || block[1] > MAX_BITS {
+    if block[0] != BUCKET_TAG {
         return Err(NoIndex);
     }
-    Ok(MAX_BITS - block[1])
+    MAX_BITS.checked_sub(block[1]).ok_or(NoIndex)
 }
 
 // The first slot of the next bucket.

@@ -29,7 +29,8 @@ fn record_at(block: &[u8], n: usize) -> Option<&[u8]>
     Some(item)
 }
 
-// Takes the records of a bucket block from a place on, until one does not fit. The answer is whether all did.
+// Takes the records of a bucket block from a place on, until one does not fit. The answer is whether all did: a full
+// page is no error, since `page` would turn it back into an end mark that is false.
 // A block hands its records out by number, so that this is a loop over numbers.
 fn take_from(block: &[u8], from: usize, page: &mut PageBuilder) -> Result<bool, NoIndex>
     ensures size { page.new.size ≡ page.old.size }
@@ -67,7 +68,8 @@ fn first_slot<K: KeyKind>(bookmark: &[u8]) -> u32
     K::hash(bookmark) >> 25
 }
 
-// Takes the records after a bookmark, bucket by bucket, until one does not fit. The answer is whether all did.
+// Takes the records after a bookmark, bucket by bucket, until one does not fit. The answer is whether all did: the end
+// mark of the page.
 pub(crate) fn gather<D: Device, K: KeyKind>(
     device: &D,
     header: &[u8],

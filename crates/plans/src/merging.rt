@@ -1,30 +1,15 @@
-ghost use Rattle.std.specs.Prelude.{◌≡◌, ℕ, ◌+◌, ◌-◌, ◌/◌, ◌^◌, ◌<◌, ◌≤◌, List, if◌then◌else◌, Some, None, MatchResult, ◌≢◌, nat_le};
-ghost use Rattle.records.specs.Records.{load};
-ghost use Rattle.records.specs.Items.{records_in};
-ghost use Rattle.buckets.specs.Blocks.{bucket_bytes};
+ghost use Rattle.std.specs.Prelude.{◌≡◌, ℕ, ◌+◌, ◌-◌, ◌/◌, ◌^◌, ◌<◌, ◌≤◌, List, MatchResult, ◌≢◌};
 ghost use Rattle.kinds.specs.Kinds.{Kind};
 ghost use Rattle.index.specs.Stored.{room_at};
-ghost use Rattle.plans.specs.Merging.{in_order, Under, GoesUp, JoinEnds, Merged};
+ghost use Rattle.plans.specs.Merging.{Under, GoesUp, JoinEnds, Merged};
 
 use crate::merge::Merge;
 use crate::numbers::Numbers;
-use buckets::{Joined, Prefix, build};
+use buckets::{Joined, build};
 use device::Device;
 use header::buddy;
 use index::{Bucket, Fault, read_bucket};
 use layout::Branch;
-
-// The block of the records of two bucket blocks, where they are light together.
-fn join_blocks(prefix: Prefix, is_low: bool, block: &[u8], beside: &[u8]) -> Option<[u8; 512]>
-    ensures { result ≡ (if nat_le (load (in_order is_low (records_in block.now) (records_in beside.now))) 504 then Some (bucket_bytes prefix (in_order is_low (records_in block.now) (records_in beside.now))) else None) }
-{
-    let (first, second) = if is_low {
-        (block, beside)
-    } else {
-        (beside, block)
-    };
-    build(prefix, &Joined { first, second })
-}
 
 // The bucket block under a prefix, joined with the one beside it: the prefix of both, and the number of
 // the other, where that is one bucket and the two are light together.
@@ -46,8 +31,20 @@ fn join<D: Device>(
     if beside.block[1] != 7 - branch.room {
         return Ok(None);
     }
+    // The records of the low half stand first.
     let is_low = (branch.slot >> branch.room) % 2 == 0;
-    let Some(block) = join_blocks(above.prefix(), is_low, block, &beside.block) else {
+    let joined = if is_low {
+        Joined {
+            first: block,
+            second: &beside.block,
+        }
+    } else {
+        Joined {
+            first: &beside.block,
+            second: block,
+        }
+    };
+    let Some(block) = build(above.prefix(), &joined) else {
         return Ok(None);
     };
     let number = beside.number;

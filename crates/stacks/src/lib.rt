@@ -10,7 +10,7 @@ use append_log::Log;
 use device::{Device, Refused};
 use window::{Span, Window};
 
-// Writes a block of a window over a device that is lent for this call.
+// Writes a block of a window over any device.
 pub fn write_within<D: Device>(
     device: &mut D,
     span: Span,
@@ -27,7 +27,7 @@ pub fn write_within<D: Device>(
     window.write(block, source)
 }
 
-// Writes a block of a window over a window over any device.
+// Writes a block of a window that lies over another one.
 pub fn write_within_both<D: Device>(
     device: &mut D,
     outer: Span,

@@ -1,9 +1,13 @@
-use Rattle.std.proofs.Common.{◌≡◌, ℕ, ◌-◌, ◌*◌, ◌/◌, ◌%◌, ◌^◌, ◌<◌, length, Some, refl, ap, ◌∙◌, subst, add-one, arith}
+use Rattle.std.proofs.Common.{◌≡◌, ℕ, ◌-◌, ◌*◌, ◌/◌, ◌%◌, ◌^◌, ◌<◌, length, ◌++◌, eqb, Some, sym, ap, ◌∙◌, subst, add-one, arith}
 use Rattle.header.specs.Headers.{pointer_in}
 use Rattle.index.specs.Stored.{prefix_at, room_at, BucketIn}
 use Rattle.index.proofs.Reading.{bucket-there}
 use Rattle.plans.proofs.Merges.{beside_split, beside-room, beside-bits, joins, heavy_two}
+use Rattle.std.proofs.lemmas.Bool.{eq-eqb, ne_eqb, cond-true, cond-false}
+use Rattle.records.specs.Items.{records_in}
+use Rattle.plans.specs.Merging.{in_order}
 use Rattle.plans.proofs.merging.join.Goals as goal
+use Rattle.plans.proofs.merging.join.Goals.{then-is_low, else-is_low}
 
 -- the slot beside, and the hash by which its bucket is read
 hash_of : (t n : ℕ) → n ≡ t → t < 128 → n * 33554432 % 4294967296 ≡ t * 33554432
@@ -39,8 +43,8 @@ returns-then-beside-branch-clause-ends g c = λ kind head old new u deep.
     beside_split u deep t inside apart near
     (λ e. c.if-beside-branch.true (bits ∙ ap (λ n. 7 - n) e))
 
-pub returns-in_default-join_blocks-clause-ends : goal.returns-in_default-join_blocks-clause-ends
-returns-in_default-join_blocks-clause-ends g c = λ kind head old new u deep.
+pub returns-in_default-build-clause-ends : goal.returns-in_default-build-clause-ends
+returns-in_default-build-clause-ends g c = λ kind head old new u deep.
     let blocks = g.D.Device.contents c.args.device.now in
     let header = c.args.header.now in
     let branch = c.args.branch in
@@ -53,7 +57,11 @@ returns-in_default-join_blocks-clause-ends g c = λ kind head old new u deep.
     let b = subst (λ x. BucketIn blocks header x beside.number beside.block) (hash_of t c.from.result c.from.ensures inside) c.in_ok-beside.ensures in
     let room = beside-room u deep t inside apart near b in
     let one : room_at kind old t ≡ branch.room = omega (arith, room, c.if-beside-branch.false, deep) in
-    heavy_two u deep t inside apart near b one _ refl c.prefix.result c.in_default-join_blocks.ensures
+    let parts : records_in c.if-is_low.joined.first.now ++ records_in c.if-is_low.joined.second.now ≡ in_order (eqb (branch.slot / 2 ^ branch.room % 2) 0) (records_in c.args.block.now) (records_in beside.block) = elim c.if-is_low.branch [
+      | then-is_low w ↦ ap (λ p. records_in p.first.now ++ records_in p.second.now) w.joined-is ∙ sym (cond-true _ _ _ (eq-eqb _ _ w.if-is_low.true))
+      | else-is_low w ↦ ap (λ p. records_in p.first.now ++ records_in p.second.now) w.joined-is ∙ sym (cond-false _ _ _ (ne_eqb _ _ w.if-is_low.false))
+    ] in
+    heavy_two u deep t inside apart near b one _ parts c.prefix.result c.in_default-build.ensures.bytes
 
 pub returns-clause-ends : goal.returns-clause-ends
 returns-clause-ends g c = λ kind head old new u.
@@ -72,4 +80,8 @@ returns-clause-ends g c = λ kind head old new u.
     let room = beside-room u deep t inside apart near b in
     let one : room_at kind old t ≡ branch.room = omega (arith, room, c.if-beside-branch.false, deep) in
     let prefix = c.prefix.ensures ∙ ap (λ n. prefix_at c.in-Some.above.room (n / 2 ^ c.in-Some.above.room)) above.0 ∙ ap (λ j. prefix_at j (branch.slot / 2 ^ j)) (above.1 ∙ add-one branch.room) in
-    joins u deep t inside apart near b one _ refl c.prefix.result c.in-Some-join_blocks.block prefix c.in-Some-join_blocks.ensures
+    let parts : records_in c.if-is_low.joined.first.now ++ records_in c.if-is_low.joined.second.now ≡ in_order (eqb (branch.slot / 2 ^ branch.room % 2) 0) (records_in c.args.block.now) (records_in beside.block) = elim c.if-is_low.branch [
+      | then-is_low w ↦ ap (λ p. records_in p.first.now ++ records_in p.second.now) w.joined-is ∙ sym (cond-true _ _ _ (eq-eqb _ _ w.if-is_low.true))
+      | else-is_low w ↦ ap (λ p. records_in p.first.now ++ records_in p.second.now) w.joined-is ∙ sym (cond-false _ _ _ (ne_eqb _ _ w.if-is_low.false))
+    ] in
+    joins u deep t inside apart near b one _ parts c.prefix.result c.in-Some-build.block prefix c.in-Some-build.ensures.bytes
