@@ -37,7 +37,8 @@ fn heading_bytes(prefix: Prefix, count: u16) -> [u8; 8]
     [3, prefix.bits, a, b, c, d, e, f]
 }
 
-// The records of a source with their pairs, in a block whose heading is still zero.
+// The records of a source with their pairs, in a block whose heading is still zero. A loop over numbers, since a
+// pair stands by its record's number, and the record where those before it end.
 #[tactic(auto, using(crate::proofs::Held::load_is, crate::proofs::Held::size_take))]
 fn lay_records<S: Source>(source: &S) -> [u8; 512]
     requires { load (S.Source.records source.now) ≤ 504 }

@@ -2,7 +2,7 @@ ghost use Rattle.std.specs.Prelude.{◌≡◌, ℕ, ◌+◌, ◌^◌, ◌≤◌,
 ghost use Rattle.kinds.specs.Kinds.{Kind};
 ghost use Rattle.changes.specs.Relaying.{filled_at, first_in, room_in, is_run, Lays, Relaid};
 
-// The bucket of each slot: its block, and how many bits its prefix leaves.
+// The bucket of each slot: its block, and how many bits its prefix leaves. Two arrays, as a header is made of.
 #[derive(Clone, Copy)]
 pub(crate) struct Table {
     pub slots: [u16; 128],

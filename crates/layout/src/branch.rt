@@ -21,7 +21,7 @@ pub fn slot_prefix(slot: u8, room: u8) -> Option<Prefix>
 }
 
 impl Branch {
-    // Nothing where there is no such slot or prefix.
+    // Nothing where there is no such slot or prefix. An `if`, since `then_some` would make the branch before the test.
     pub fn new(slot: u8, room: u8) -> Option<Branch>
         ensures { MatchOption result (slot < 128 → room ≤ 7 → ⊥) (λ b. (b.slot ≡ slot) × (b.room ≡ room)) }
     {

@@ -23,7 +23,8 @@ fn head_bytes(count: u16, end: bool) -> [u8; 4]
     [a, b, u8::from(end), 0]
 }
 
-// The pairs of records of these lengths, the first of which starts at `start`.
+// The pairs of records of these lengths, the first of which starts at `start`. Places are counted, since
+// the library does not say of a slice what its chunks leave it as.
 fn write_pairs(buffer: &mut [u8], lens: &[u16], start: usize)
     requires { (4 + 4 * length lens.now ≤ length buffer.old) × (start + sum lens.now < 65536) }
     ensures { buffer.new ≡ over 4 (pairs_by start lens.now) buffer.old }

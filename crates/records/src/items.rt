@@ -38,7 +38,7 @@ fn item(bytes: &[u8], count: usize, pairs: usize, n: usize) -> Option<&[u8]>
     front(part, usize::from(len))
 }
 
-// Record n of a bucket block.
+// Record n of a bucket block. A name for each of the two layouts; the work is that of `item`.
 pub fn bucket_record(block: &[u8], n: usize) -> Option<&[u8]>
     ensures { option_map (λ x. x.now) result ≡ bucket_item block.now n }
 {
