@@ -112,7 +112,7 @@ def shape(text):
 
 def fields(text):
     """Each struct's name, its array fields and its fields that are lengths."""
-    for m in re.finditer(r"^(?:pub )?struct (\w+)[^{;\n]*\{(.*?)^\}", text, re.M | re.S):
+    for m in re.finditer(r"^(?:pub(?:\(crate\))? )?struct (\w+)[^{;\n]*\{(.*?)^\}", text, re.M | re.S):
         arrays = re.findall(r"^    (?:pub(?:\(crate\))? )?(\w+): \[.*; (\d+)\],$", m.group(2), re.M)
         lengths = re.findall(r"^    (?:pub(?:\(crate\))? )?(len|count|fill): usize,$", m.group(2), re.M)
         yield m.group(1), arrays, lengths
@@ -152,7 +152,7 @@ def main():
                 shown = " ".join(m.group(0).split())[:90]
                 rows.append((point, rule, f"{name}:{line_of(bare, m.start())}", shown))
         for m in FN.finditer(bare):
-            if "&mut" in m.group(2) and m.group(3).strip() in ("bool", "Option<bool>"):
+            if "&mut" in m.group(2) and re.match(r"(Option<|Result<)?bool\b", m.group(3).strip()):
                 rows.append(("1", "flag that tells success", name, m.group(1)))
         for struct, arrays, lengths in fields(bare):
             for (array, _), length in zip(arrays, lengths):
