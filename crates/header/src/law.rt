@@ -1,4 +1,4 @@
-ghost use Rattle.std.specs.Prelude.{◌≡◌, ℕ, ◌/◌, ◌^◌, ◌<◌, ◌≤◌, Decides, ◌≢◌, true, bit_xor};
+ghost use Rattle.std.specs.Prelude.{◌≡◌, ℕ, ◌/◌, ◌%◌, ◌^◌, ◌<◌, ◌≤◌, Decides, ◌≢◌, true, bit_xor};
 ghost use Rattle.header.specs.Headers.{RunAt, IsRoom, LawfulAt, LawfulNext, AllLawful};
 
 // Whether the run of slot s has just the slots that share its prefix.
@@ -12,6 +12,7 @@ fn is_run(slots: &[u16; 128], room: u8, s: usize) -> bool
 // The slot beside another that the prefix with `room` bits left tells from it, and no shorter prefix does.
 pub fn buddy(slot: u8, room: u8) -> u8
     ensures value { room < 8 → result ≡ bit_xor slot (2 ^ room) }
+    ensures wraps { result ≡ bit_xor slot (2 ^ (room % 8)) }
     ensures inside { slot < 128 → room < 7 → result < 128 }
     ensures apart { room < 8 → result / 2 ^ room ≢ slot / 2 ^ room }
     ensures near { room < 8 → result / 2 ^ room / 2 ≡ slot / 2 ^ room / 2 }

@@ -15,3 +15,9 @@ returns-clause-apart c h = subst (λ n. bit_xor c.args.slot n / 2 ^ c.args.room 
 
 pub returns-clause-near : goal.returns-clause-near
 returns-clause-near c h = subst (λ n. bit_xor c.args.slot n / 2 ^ c.args.room / 2 ≡ c.args.slot / 2 ^ c.args.room / 2) (shifted c.args.room c.from.result _ c.from.ensures c.wrapping_shl.ensures h) (buddy_near c.args.slot c.args.room)
+
+pub returns-clause-wraps : goal.returns-clause-wraps
+returns-clause-wraps c =
+    let r = c.from.result in
+    let e : c.wrapping_shl.result ≡ 2 ^ (r % 8) = c.wrapping_shl.ensures ∙ one_shl (r % 8) 8 (omega arith) in
+    ap (bit_xor c.args.slot) (e ∙ ap (λ n. 2 ^ (n % 8)) c.from.ensures)
