@@ -1,9 +1,13 @@
 -- Blocks after several are written.
-use Rattle.std.proofs.Common.{◌≡◌, ℕ, zero, suc, ◌+◌, ◌<◌, ◌≤◌, List, [], ◌∷◌, length, get_or, drop, min, set, refl, ap, ◌∙◌, ⊎_elim, arith, length-set}
-use Rattle.std.proofs.lemmas.List.{get_or-set_same, get_or-set_other, drop_more, drop_all}
+use Rattle.std.proofs.Common.{◌≡◌, ℕ, zero, suc, ◌+◌, ◌-◌, ◌<◌, ◌≤◌, List, [], ◌∷◌, length, get_or, take, drop, min, set, refl, ap, ◌∙◌, ⊎_elim, arith, length-set}
+use Rattle.std.proofs.lemmas.List.{get_or-set_same, get_or-set_other, drop_more, drop_all, take_all, length-take}
 use Rattle.std.proofs.lemmas.Bool.{cases_lt}
 use Rattle.index.specs.Stored.{Blocks, block}
 use Rattle.changes.specs.Making.{written}
+
+-- the blocks of a plan that has buckets are all of those that are gathered for it
+pub numbers_whole : (n number : ℕ) (spare : List ℕ) → 1 ≤ n → take n (number ∷ take (n - 1) spare) ≡ number ∷ take (n - 1) spare
+numbers_whole n number spare some = take_all n (number ∷ take (n - 1) spare) (omega (arith, length-take (n - 1) spare, some))
 
 pub length-written : (d : Blocks) (ns : List ℕ) (xs : List (List ℕ)) → length (written d ns xs) ≡ length d
 length-written d ns [] = refl

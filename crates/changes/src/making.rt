@@ -11,14 +11,16 @@ use device::Device;
 use index::Fault;
 use plans::Plan;
 
-// The blocks of a plan's buckets: the one of the old bucket, then spare ones, unless these are too few.
+// The blocks of a plan's buckets: the one of the old bucket, then spare ones, unless these are too few. A plan of no
+// buckets has none.
 fn numbers_for(plan: &Plan, spare: &[u16]) -> Option<ArrayVec<u16, 8>>
-    ensures { MatchOption result (length spare.now < array_vec_len plan.now.laid - 1) (λ n. (array_vec_len plan.now.laid - 1 ≤ length spare.now) × (n.items ≡ plan.now.number ∷ take (array_vec_len plan.now.laid - 1) spare.now)) }
+    ensures { MatchOption result (length spare.now < array_vec_len plan.now.laid - 1) (λ n. (array_vec_len plan.now.laid - 1 ≤ length spare.now) × (n.items ≡ take (array_vec_len plan.now.laid) (plan.now.number ∷ take (array_vec_len plan.now.laid - 1) spare.now))) }
 {
     let taken = spare.get(..plan.taken())?;
     let mut numbers = ArrayVec::new();
     numbers.push(plan.number);
     numbers.try_extend_from_slice(taken).ok()?;
+    numbers.truncate(plan.laid.len());
     Some(numbers)
 }
 

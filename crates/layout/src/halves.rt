@@ -1,4 +1,4 @@
-ghost use Rattle.std.specs.Prelude.{◌≡◌, ◌+◌, ◌*◌, ◌-◌, ◌^◌, ◌<◌, ◌≤◌, true, MatchOption, Decides};
+ghost use Rattle.std.specs.Prelude.{◌≡◌, ◌+◌, ◌*◌, ◌-◌, ◌^◌, ◌<◌, ◌≤◌, true, if◌then◌else◌, MatchOption, Decides};
 ghost use Rattle.records.specs.Records.{is_record, key_of};
 ghost use Rattle.shape.specs.Shapes.{prefix_of};
 ghost use Rattle.index.specs.Stored.{prefix_at};
@@ -8,6 +8,13 @@ use crate::part::Part;
 use buckets::Prefix;
 use kinds::KeyKind;
 use records::read_record;
+
+// The hash of a record's key, and 0 for bytes that are no record, so that they count under prefix 0.
+fn hash_of<K: KeyKind>(bytes: &[u8]) -> u32
+    ensures { result ≡ (if is_record bytes.now then K.KeyKind.kind.hash (key_of bytes.now) else 0) }
+{
+    read_record(bytes).map_or(0, |parts| K::hash(parts.key))
+}
 
 impl Part {
     // The prefix as a bucket block has it.
@@ -40,9 +47,6 @@ impl Part {
     pub fn has<K: KeyKind>(self, bytes: &[u8]) -> bool
         ensures { is_record bytes.now ≡ true → Decides result (prefix_of self.room (K.KeyKind.kind.hash (key_of bytes.now)) ≡ self.prefix) }
     {
-        matches!(
-            read_record(bytes),
-            Some(parts) if u64::from(K::hash(parts.key)) >> (25 + self.room) == u64::from(self.prefix)
-        )
+        u64::from(hash_of::<K>(bytes)) >> (25 + self.room) == u64::from(self.prefix)
     }
 }

@@ -7,7 +7,7 @@ use Rattle.std.proofs.lemmas.Bool.Decides.{Decides-eqb}
 use Rattle.arrayvec.specs.ArrayVec.{array_vec_len}
 use Rattle.plans.specs.Planned.{numbers_of, Changed}
 use Rattle.changes.specs.Making.{written}
-use Rattle.changes.proofs.Writes.{length-written}
+use Rattle.changes.proofs.Writes.{length-written, numbers_whole}
 use Rattle.changes.proofs.Naming.{some_laid}
 use Rattle.changes.proofs.Stores.{pending_taken, there, wrote-both, wrote-buckets, changed}
 use Rattle.changes.proofs.making.make.Goals as goal
@@ -20,9 +20,9 @@ returns-then-not-is_ready-clause-makes g c = λ kind old new st pl sp.
     let spare = c.args.spare.now in
     let n = array_vec_len plan.laid - 1 in
     let told = rw c.in_ok-numbers.ensures.ok_part at c.numbers_for.ensures in
-    let items = c.as_slice-numbers.ensures.value ∙ told.1 in
     let due = pending_taken kind before head old new plan spare st pl sp told.0 in
     let some = some_laid due in
+    let items = c.as_slice-numbers.ensures.value ∙ told.1 ∙ numbers_whole (array_vec_len plan.laid) plan.number spare some in
     let long : length c.as_slice-numbers.result.now ≡ array_vec_len plan.laid = omega (arith, ap length items, length-take n spare, told.0, some) in
     record {
       served = (
@@ -45,14 +45,18 @@ returns-in_err-header-clause-makes g c = λ kind old new st pl sp.
     let n = array_vec_len plan.laid - 1 in
     let told = rw c.in_ok-numbers.ensures.ok_part at c.numbers_for.ensures in
     let none = rw c.in_err-header.ensures.ok_part at c.head_after.ensures in
-    absurd (none kind before c.args.head old new (take n spare) (pending_taken kind before c.args.head old new plan spare st pl sp told.0) (c.as_slice-numbers.ensures.value ∙ told.1))
+    let due = pending_taken kind before c.args.head old new plan spare st pl sp told.0 in
+    absurd (none kind before c.args.head old new (take n spare) due (c.as_slice-numbers.ensures.value ∙ told.1 ∙ numbers_whole (array_vec_len plan.laid) plan.number spare (some_laid due)))
 
 pub write_buckets-requires : goal.write_buckets-requires
 write_buckets-requires g c =
     let told = rw c.in_ok-numbers.ensures.ok_part at c.numbers_for.ensures in
     let ready = c.is_ready.ensures.0 c.if-not-is_ready.false in
+    let plan = c.args.plan.now in
+    let rest = take (array_vec_len plan.laid - 1) c.args.spare.now in
     let long = ap length (c.as_slice-numbers.ensures.value ∙ told.1) in
-    (omega (arith, ready.writes, long, length-take (array_vec_len c.args.plan.now.laid - 1) c.args.spare.now, told.0, ap length c.as_slice.ensures.value), ready.there)
+    let short = length-take (array_vec_len plan.laid) (plan.number ∷ rest) in
+    (omega (arith, ready.writes, long, short, length-take (array_vec_len plan.laid - 1) c.args.spare.now, told.0, ap length c.as_slice.ensures.value), ready.there)
 
 pub returns-then-ne-clause-makes : goal.returns-then-ne-clause-makes
 returns-then-ne-clause-makes g c = λ kind old new st pl sp.
@@ -65,12 +69,12 @@ returns-then-ne-clause-makes g c = λ kind old new st pl sp.
     let after = g.D.Device.contents c.write.new.self in
     let n = array_vec_len plan.laid - 1 in
     let told = rw c.in_ok-numbers.ensures.ok_part at c.numbers_for.ensures in
-    let items = c.as_slice-numbers.ensures.value ∙ told.1 in
+    let due = pending_taken kind before head old new plan spare st pl sp told.0 in
+    let items = c.as_slice-numbers.ensures.value ∙ told.1 ∙ numbers_whole (array_vec_len plan.laid) plan.number spare (some_laid due) in
     let ready = c.is_ready.ensures.0 c.if-not-is_ready.false in
     let b = c.write_buckets.ensures in
     let long = ap length items in
     let short = length-take n spare in
-    let due = pending_taken kind before head old new plan spare st pl sp told.0 in
     let hd = (rw c.in_ok-header.ensures.ok_part at c.head_after.ensures) kind before head old new (take n spare) due items in
     let wrote : g.D.Device.contents mid ≡ written before (plan.number ∷ take n spare) plan.laid.items = b.sets ∙ ap (λ ns. written before ns c.as_slice.result.now) items ∙ ap (written before (plan.number ∷ take n spare)) c.as_slice.ensures.value in
     let low : c.from.result < length (g.D.Device.contents mid) = omega (arith, c.from.ensures, ready.header, ap length wrote, length-written before (plan.number ∷ take n spare) plan.laid.items) in
@@ -97,11 +101,11 @@ returns-else-ne-clause-makes g c = λ kind old new st pl sp.
     let after = g.D.Device.contents c.write_buckets.new.device in
     let n = array_vec_len plan.laid - 1 in
     let told = rw c.in_ok-numbers.ensures.ok_part at c.numbers_for.ensures in
-    let items = c.as_slice-numbers.ensures.value ∙ told.1 in
+    let due = pending_taken kind before head old new plan spare st pl sp told.0 in
+    let items = c.as_slice-numbers.ensures.value ∙ told.1 ∙ numbers_whole (array_vec_len plan.laid) plan.number spare (some_laid due) in
     let ready = c.is_ready.ensures.0 c.if-not-is_ready.false in
     let long = ap length items in
     let short = length-take n spare in
-    let due = pending_taken kind before head old new plan spare st pl sp told.0 in
     let hd = (rw c.in_ok-header.ensures.ok_part at c.head_after.ensures) kind before head old new (take n spare) due items in
     let wrote : after ≡ written before (plan.number ∷ take n spare) plan.laid.items = c.write_buckets.ensures.sets ∙ ap (λ ns. written before ns c.as_slice.result.now) items ∙ ap (written before (plan.number ∷ take n spare)) c.as_slice.ensures.value in
     let x = pointwise eqb header plan.header in
@@ -114,3 +118,6 @@ returns-else-ne-clause-makes g c = λ kind old new st pl sp.
           subst (λ ts. Changed kind before after head old new ts (numbers_of plan.given)) (take-take n n spare (omega arith))
           (changed due hd (wrote-buckets due header hd after wrote (same ∙ pl.read)));
     }
+
+pub returns-then-ne-clause-keeps : goal.returns-then-ne-clause-keeps
+returns-then-ne-clause-keeps g c = g.D.Device.laws.onward _ _ _ c.write_buckets.ensures.keeps c.write.ensures.keeps

@@ -1,19 +1,13 @@
 use Rattle.std.proofs.Common.{◌≡◌, ◌+◌, ◌/◌, ◌^◌, ap, ◌∙◌, arith}
+use Rattle.std.proofs.lemmas.Bool.{cond-true}
 use Rattle.std.proofs.lemmas.Bool.Decides.{nat_tests}
 use Rattle.records.specs.Records.{key_of}
 use Rattle.shape.specs.Shapes.{prefix_of}
 use Rattle.layout.proofs.part.Part.has.Goals as goal
 
-pub returns-in-Some : goal.returns-in-Some
+pub returns : goal.returns
 unfolding prefix_of
-returns-in-Some g c = λ t.
+returns g c = λ t.
     let k = 25 + c.args.self.room in
-    let e : c.from.result / 2 ^ k ≡ g.K.KeyKind.kind.hash (key_of c.args.bytes.now) / 2 ^ k = ap (λ h. h / 2 ^ k) (c.from.ensures ∙ c.hash.ensures ∙ ap g.K.KeyKind.kind.hash c.in-Some.ensures.1) in
+    let e : c.from.result / 2 ^ k ≡ g.K.KeyKind.kind.hash (key_of c.args.bytes.now) / 2 ^ k = ap (λ h. h / 2 ^ k) (c.from.ensures ∙ c.hash_of.ensures ∙ cond-true _ _ _ t) in
     (λ z. grind (arith, nat_tests), λ z. grind (arith, nat_tests))
-
-pub returns-in_default : goal.returns-in_default
-unfolding prefix_of
-returns-in_default g c = λ t.
-    let k = 25 + c.args.self.room in
-    let e : c.from.result / 2 ^ k ≡ g.K.KeyKind.kind.hash (key_of c.args.bytes.now) / 2 ^ k = ap (λ h. h / 2 ^ k) (c.from.ensures ∙ c.hash.ensures ∙ ap g.K.KeyKind.kind.hash c.in-Some.ensures.1) in
-    (λ z. absurd (cc), λ z. grind (arith, nat_tests))
