@@ -6,4 +6,4 @@ mod log;
 mod records;
 
 pub use head::Head;
-pub use log::{Log, LogBuf};
+pub use log::{Log, LogBuf, LogMut};

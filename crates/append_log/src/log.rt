@@ -18,6 +18,9 @@ pub struct Log<B: Bytes> {
 // A log in a vector.
 pub type LogBuf = Log<Vec<u8>>;
 
+// A log in a slice that is lent. Its `new` asks for a `&mut`, so that a variable is lent and serves again afterwards.
+pub type LogMut<'a> = Log<&'a mut [u8]>;
+
 impl<B: Bytes> Log<B> {
     // Checks every used record, once.
     pub fn new(bytes: B) -> Log<B>

@@ -1,8 +1,8 @@
-use append_log::LogBuf;
+use append_log::{LogBuf, LogMut};
 use device::{Device, Refused};
-use image::Image;
+use image::{Image, ImageMut};
 use std::test::Fail;
-use window::{Span, Window};
+use window::{Span, Window, WindowMut};
 
 #[test]
 fn a_window_past_the_end_tells_no_blocks(rt: HostRuntime) {
@@ -47,4 +47,35 @@ fn a_window_over_a_window_over_a_log_appends_one_record(rt: HostRuntime) -> Resu
         [1, 0, 6, 8, 8]
     );
     Ok(())
+}
+
+#[test]
+fn what_is_lent_serves_again_after_its_device(rt: HostRuntime) {
+    let mut bytes = [0; 6 + 3 * 514];
+    bytes[5] = 3;
+    let lent = bytes.as_mut_slice();
+    {
+        let mut log = LogMut::new(lent);
+        let device = &mut log;
+        {
+            let mut window = WindowMut::new(device, Span { start: 0, count: 1 });
+            assert_eq!(rt; window.write(0, &[7; 512]), Ok(()));
+        }
+        let mut window = WindowMut::new(device, Span { start: 1, count: 1 });
+        assert_eq!(rt; window.write(0, &[8; 512]), Ok(()));
+    }
+    {
+        let log = LogMut::new(lent);
+        assert_eq!(rt; log.allowance(), 1);
+    }
+    {
+        let image = ImageMut::new(lent);
+        assert_eq!(rt; image.count(), 3);
+    }
+    let mut image = ImageMut::new(lent);
+    assert_eq!(rt; image.write(0, &[9; 512]), Ok(()));
+    assert_eq!(rt;
+        [bytes[0], bytes[511], bytes[521], bytes[522]],
+        [9, 9, 1, 8]
+    );
 }

@@ -19,6 +19,9 @@ pub struct Image<B> {
 // An image in a vector.
 pub type ImageBuf = Image<Vec<u8>>;
 
+// An image in a slice that is lent. Its `new` asks for a `&mut`, so that a variable is lent and serves again afterwards.
+pub type ImageMut<'a> = Image<&'a mut [u8]>;
+
 impl<B: Bytes> Image<B> {
     pub fn new(bytes: B) -> Image<B>
         ensures { result.bytes ≡ bytes }

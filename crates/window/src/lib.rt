@@ -17,6 +17,9 @@ pub struct Window<D> {
     span: Span,
 }
 
+// A window over a device that is lent. Its `new` asks for a `&mut`, so that a variable is lent and serves again afterwards.
+pub type WindowMut<'a, D> = Window<&'a mut D>;
+
 impl<D: Device> Window<D> {
     pub fn new(below: D, span: Span) -> Window<D>
         ensures device { result.below ≡ below }
