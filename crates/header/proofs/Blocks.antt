@@ -48,7 +48,10 @@ run_len d l =
     let z : 7 - d + d ≡ 7 = omega arith in
     ap (λ n. n / 2 ^ d) (sym (ap (λ k. 2 ^ k) z) ∙ pow-add 2 (7 - d) d) ∙ shl-shr (2 ^ (7 - d)) d
 
-encodes_same : (count d : ℕ) (slots a b : List ℕ) → Encodes count d slots a → Encodes count d slots b → a ≡ b
+pub same_lawful : {n m : ℕ} {a b c d : List ℕ} → n ≡ m → a ≡ b → c ≡ d → Lawful m b d → Lawful n a c
+same_lawful e f g law = rw (e, f, g) law
+
+pub encodes_same : (count d : ℕ) (slots a b : List ℕ) → Encodes count d slots a → Encodes count d slots b → a ≡ b
 encodes_same count d slots a b p q =
     ext_get_or 0 a b (p.long ∙ sym q.long) (λ i l. let m : i < 512 = omega (arith, p.long) in p.bytes i m ∙ sym (q.bytes i m))
 
@@ -173,7 +176,7 @@ module _ (count : ℕ) (slots rooms block : List ℕ) (law : Lawful count slots 
       )
 
   pub law_read : (n : ℕ) (read found : List ℕ) → n ≡ count → read ≡ slots → found ≡ rooms → Lawful n read found
-  law_read n read found a b c = rw (a, b, c) law
+  law_read n read found a b c = same_lawful a b c law
 
   -- and writing them gives the block again
   pub block_again : (n : ℕ) (read found again : List ℕ) → n ≡ count → read ≡ slots → found ≡ rooms → Encodes n (deepest found) read again → again ≡ block
