@@ -10,4 +10,4 @@ pub returns-clause-after : goal.returns-clause-after
 returns-clause-after g c =
     let bs = g.D.Device.contents c.args.self.now.below in
     let p = c.in_ok-place.ensures.within in
-    c.read.ensures.after ∙ ap (λ x. cond (is_ok c.read.result) x c.args.buffer.now) (ap (λ k. get_or bs k []) p.0 ∙ sym (get_or-view bs c.args.self.now.span c.args.block [] p.1))
+    c.read.ensures.after ∙ ap (λ x. cond (is_ok c.read.result) x c.args.buffer.now) (ap (λ k. get_or bs k []) (omega (arith, p.0)) ∙ sym (get_or-view bs c.args.self.now.span c.args.block [] p.1))
